@@ -1,0 +1,6 @@
+pub mod Causes
+pub mod Messages
+pub mod MessagesLaws
+pub mod Stream
+pub mod Takes
+pub mod Told
