@@ -1,8 +1,13 @@
 //! Bytes, fewer than 2^32, which contracts see as a list.
-ghost use Rattle.std.specs.Prelude.{◌≡◌, ◌<◌, ◌^◌, length, IfOk};
+ghost use Rattle.std.specs.Prelude.{◌≡◌, ◌<◌, ◌^◌, ◌↔◌, [], length, bytes_eq, Some, IsTrue, IfOk, refl};
+ghost use Rattle.std.specs.Cmp.{partial_equiv_from_equiv};
+ghost use Rattle.std.specs.Cmp.Lexicographic.{slice_cmp, nat_list_eq_equiv, nat_list_cmp_total, texts_ties, texts_po};
+ghost use Rattle.std.specs.Ordering.{nat_cmp};
 
+use crate::items::Copied;
 use crate::no_memory::NoMemory;
 use std::alloc::Global;
+use std::cmp::Ordering;
 use std::marker::Model;
 
 /// Fewer than 2^32 bytes.
@@ -48,11 +53,72 @@ impl Bytes {
         self.inner.as_slice()
     }
 
-    /// A copy of its own.
-    pub fn copy(&self) -> Result<Bytes, NoMemory>
-        ensures { IfOk result (λ r. r ≡ self.now) }
+    /// The bytes as a `Vec`, with no copy.
+    pub fn into_vec(self) -> Vec<u8>
+        ensures { result.items ≡ self }
     {
+        let Bytes { inner } = self;
+        inner
+    }
+
+    /// How many bytes there are.
+    pub fn len(&self) -> usize
+        ensures value { result ≡ length self.now }
+        ensures short { result < 2 ^ 32 }
+    {
+        self.inner.len()
+    }
+
+    /// Whether there is none.
+    pub fn is_empty(&self) -> bool
+        ensures { IsTrue result ↔ (self.now ≡ []) }
+    {
+        self.inner.is_empty()
+    }
+}
+
+impl Copied for Bytes {
+    fn copy(&self) -> Result<Bytes, NoMemory> {
         let inner = self.inner.clone()?;
         Bytes::of_vec(inner)
     }
 }
+
+impl PartialEq for Bytes {
+    ghost eq = { bytes_eq };
+
+    ghost laws = { partial_equiv_from_equiv nat_list_eq_equiv };
+
+    fn eq(&self, other: &Bytes) -> bool {
+        self.as_slice() == other.as_slice()
+    }
+}
+
+impl Eq for Bytes {
+    ghost laws = { nat_list_eq_equiv };
+}
+
+impl PartialOrd for Bytes {
+    ghost partial_cmp = { λ x y. Some (slice_cmp nat_cmp x y) };
+
+    ghost laws = { texts_po };
+
+    fn partial_cmp(&self, other: &Bytes) -> Option<Ordering> {
+        Some(self.cmp(other))
+    }
+}
+
+impl Ord for Bytes {
+    ghost cmp = { slice_cmp nat_cmp };
+
+    ghost total = { nat_list_cmp_total };
+
+    ghost matches_partial_cmp = { λ x y. refl };
+
+    ghost matches_eq = { texts_ties };
+
+    fn cmp(&self, other: &Bytes) -> Ordering {
+        self.as_slice().cmp(other.as_slice())
+    }
+}
+

@@ -4,6 +4,7 @@ ghost use Rattle.std.specs.Prelude.{length, IfOk, OnOk, OnErr, option_copied, â—
 ghost use Rattle.nb_base.specs.Messages.{header, with_header, without_header, id_name, has_id, IsMessage};
 
 use crate::headers::Headers;
+use crate::items::{Copied, Items};
 use crate::no_memory::NoMemory;
 use crate::text::Text;
 use std::alloc::Global;
@@ -95,3 +96,14 @@ impl Envelope {
         self.headers.remove(name);
     }
 }
+
+impl Copied for Envelope {
+    fn copy(&self) -> Result<Envelope, NoMemory> {
+        let headers = self.headers.copy()?;
+        let body = self.body.copy()?;
+        Ok(Envelope { headers, body })
+    }
+}
+
+/// Envelopes, in order.
+pub type Envelopes = Items<Envelope>;

@@ -2,6 +2,7 @@
 ghost use Rattle.std.specs.Prelude.{◌≡◌, ◌≢◌, ◌<◌, ◌^◌, ◌↔◌, length, IsTrue, IfOk, OnOk, OnErr, option_copied, slice_get, Some, []};
 ghost use Rattle.nb_base.specs.Messages.{header, with_header, without_header, names, AreDistinct};
 
+use crate::items::Copied;
 use crate::no_memory::NoMemory;
 use crate::text::Text;
 use indexmap::IndexMap;
@@ -75,5 +76,17 @@ impl Headers {
         ensures distinct { AreDistinct self.new }
     {
         self.map.shift_remove(name);
+    }
+}
+
+impl Copied for Headers {
+    fn copy(&self) -> Result<Headers, NoMemory> {
+        let alloc = *self.map.allocator();
+        let mut headers = Headers::new(alloc);
+        for i in 0..self.len() {
+            let (name, text) = self.at(i);
+            headers.set(alloc, name, text.copy()?)?;
+        }
+        Ok(headers)
     }
 }

@@ -1,5 +1,5 @@
 //! A small list of any kind of items, which contracts see as a list.
-ghost use Rattle.std.specs.Prelude.{◌≡◌, ◌<◌, ◌++◌, ◌^◌, ◌∷◌, [], length, slice_get, Some, IfOk, OnOk, OnErr};
+ghost use Rattle.std.specs.Prelude.{◌≡◌, ◌<◌, ◌++◌, ◌^◌, ◌∷◌, [], length, slice_get, Some, IfOk, OnOk, OnErr, IsTrue, ◌↔◌};
 
 use crate::no_memory::NoMemory;
 use std::alloc::Global;
@@ -7,8 +7,8 @@ use std::marker::Model;
 
 /// Plain data that can be copied, where there is memory.
 pub trait Copied: Sized {
-    /// A copy of its own.
-    fn copied(&self, alloc: Global) -> Result<Self, NoMemory>
+    /// A copy that shares nothing with the value.
+    fn copy(&self) -> Result<Self, NoMemory>
         ensures { IfOk result (λ x. x ≡ self.now) };
 }
 
@@ -54,15 +54,40 @@ impl<T> Items<T> {
         &self.inner[i]
     }
 
+    /// Whether there is none.
+    pub fn is_empty(&self) -> bool
+        ensures { IsTrue result ↔ (self.now ≡ []) }
+    {
+        self.inner.is_empty()
+    }
+
     /// The items as a slice.
     pub fn as_slice(&self) -> &[T]
         ensures { result.now ≡ self.now }
     {
         self.inner.as_slice()
     }
+
+    /// The same items, with no copy.
+    pub fn into_vec(self) -> Vec<T>
+        ensures { result.items ≡ self }
+    {
+        let Items { inner } = self;
+        inner
+    }
 }
 
 impl<T: Drop> Items<T> {
+    /// The same items, with no copy.
+    pub fn of_vec(inner: Vec<T>) -> Result<Items<T>, NoMemory>
+        ensures { IfOk result (λ x. x ≡ inner.items) }
+    {
+        if inner.len() >= 1 << 32 {
+            return Err(NoMemory);
+        }
+        Ok(Items { inner })
+    }
+
     /// One more item, at the end.
     pub fn push(&mut self, item: T) -> Result<(), NoMemory>
         ensures ok { OnOk result (self.new ≡ self.old ++ item ∷ []) }
@@ -76,17 +101,20 @@ impl<T: Drop> Items<T> {
     }
 }
 
-impl<T: Copied + Drop> Items<T> {
-    /// A copy of its own.
+impl<T: Copied + Drop> Copied for Items<T> {
     #[tactic(auto, using(crate::proofs::ListLaws::take_next))]
-    pub fn copy(&self, alloc: Global) -> Result<Items<T>, NoMemory>
-        ensures { IfOk result (λ x. x ≡ self.now) }
-    {
-        let mut items = Items::new(alloc);
+    fn copy(&self) -> Result<Items<T>, NoMemory> {
+        let mut items = Items::new(*self.inner.allocator());
         for i in 0..self.len() {
-            let item = self.at(i).copied(alloc)?;
+            let item = self.at(i).copy()?;
             items.push(item)?;
         }
         Ok(items)
+    }
+}
+
+impl Copied for u64 {
+    fn copy(&self) -> Result<u64, NoMemory> {
+        Ok(*self)
     }
 }

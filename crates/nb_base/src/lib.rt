@@ -3,14 +3,20 @@
 
 mod bytes;
 mod clock;
+mod entry;
 mod envelope;
 mod failed;
+mod gate;
 mod headers;
 mod items;
 mod mem_sink;
 mod mem_source;
 mod moment;
 mod no_memory;
+mod plan;
+mod route;
+mod saga_row;
+mod settings;
 mod sink;
 mod source;
 mod text;
@@ -18,14 +24,22 @@ mod value;
 
 pub use bytes::Bytes;
 pub use clock::{Clock, FixedClock};
-pub use envelope::{Envelope, MESSAGE_ID};
+pub use entry::{Count, Counts, Entries, Entry, Op, Ops, OutboxRow, Waiting, Which};
+pub use envelope::{Envelope, Envelopes, MESSAGE_ID};
 pub use failed::Failed;
+pub use gate::{Gate, OpenGate, Point};
 pub use headers::Headers;
 pub use items::{Copied, Items};
 pub use mem_sink::MemSink;
 pub use mem_source::MemSource;
 pub use moment::{LAST, Moment};
 pub use no_memory::NoMemory;
+pub use plan::{
+    Fault, FaultKind, FromSaga, Intent, Intents, Outcome, Plan, SagaRef, Target, Verdict, Write, Writes,
+};
+pub use route::{Action, Policies, Policy, Route, Routes, Subscriber, Subscribers};
+pub use saga_row::{Read, Reads, SagaRow, Seen};
+pub use settings::Settings;
 pub use sink::{Sink, WriteStop, write_all};
 pub use source::{ReadStop, Source, read_all};
 pub use text::Text;

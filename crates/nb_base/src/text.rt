@@ -46,14 +46,6 @@ impl Text {
         Ok(Text { inner })
     }
 
-    /// A copy of its own.
-    pub fn copy(&self) -> Result<Text, NoMemory>
-        ensures { IfOk result (λ t. t ≡ self.now) }
-    {
-        let inner = self.inner.clone()?;
-        Text::of_string(inner)
-    }
-
     /// The text as a `&str`.
     pub fn as_str(&self) -> &str
         ensures value { result.now ≡ self.now }
@@ -95,8 +87,9 @@ impl AsStr for Text {
 }
 
 impl Copied for Text {
-    fn copied(&self, _alloc: Global) -> Result<Text, NoMemory> {
-        self.copy()
+    fn copy(&self) -> Result<Text, NoMemory> {
+        let inner = self.inner.clone()?;
+        Text::of_string(inner)
     }
 }
 
