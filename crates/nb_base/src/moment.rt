@@ -25,6 +25,9 @@ impl Model for Moment {
 }
 
 impl Moment {
+    /// 1970-01-01 00:00:00 UTC.
+    pub const FIRST: Moment = Moment { seconds: 0 };
+
     /// The moment with these seconds, unless they are out of range.
     pub fn new(seconds: u64) -> Option<Moment>
         ensures { result ≡ (if nat_le seconds 253402300799 then Some seconds else None) }
