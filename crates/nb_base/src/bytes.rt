@@ -121,4 +121,3 @@ impl Ord for Bytes {
         self.as_slice().cmp(other.as_slice())
     }
 }
-

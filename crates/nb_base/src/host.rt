@@ -77,6 +77,7 @@ impl<W: Write> Sink for WriteSink<W> {
 }
 
 /// The system's clock. Where it can't be read, or is out of a moment's range, it answers the first moment.
+#[derive(Drop)]
 pub struct HostClock<'a, C: time::Clock> {
     clock: &'a C,
 }

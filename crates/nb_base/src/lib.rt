@@ -37,7 +37,8 @@ pub use mem_source::MemSource;
 pub use moment::{LAST, Moment};
 pub use no_memory::NoMemory;
 pub use plan::{
-    Fault, FaultKind, FromSaga, Intent, Intents, Outcome, Plan, SagaRef, Target, Verdict, Write, Writes,
+    Fault, FaultKind, FromSaga, Intent, Intents, Outcome, Plan, SagaRef, Target, Verdict, Write,
+    Writes,
 };
 pub use route::{Action, Policies, Policy, Route, Routes, Subscriber, Subscribers};
 pub use saga_row::{Read, Reads, SagaRow, Seen};
@@ -46,3 +47,6 @@ pub use sink::{Sink, WriteStop, write_all};
 pub use source::{ReadStop, Source, read_all};
 pub use text::Text;
 pub use value::{Field, Fields, Key, Keys, Names, Numbers, Value};
+
+#[cfg(test)]
+mod tests;

@@ -5,8 +5,8 @@ ghost use Rattle.std.specs.Io.KnownBytes.{ReadConsumes};
 ghost use Rattle.nb_base.specs.Causes.{HasCause, Rose};
 ghost use Rattle.nb_base.specs.Takes.{TakesAll, TakesSome};
 
-use crate::failed::Failed;
 use crate::bytes::Bytes;
+use crate::failed::Failed;
 use crate::no_memory::NoMemory;
 use std::alloc::{AllocError, Global};
 use thiserror::Error;

@@ -6,8 +6,8 @@ ghost use Rattle.std.specs.Ordering.{nat_cmp};
 
 use crate::items::Copied;
 use crate::no_memory::NoMemory;
-use std::cmp::Ordering;
 use std::alloc::Global;
+use std::cmp::Ordering;
 use std::convert::AsStr;
 use std::marker::Model;
 
@@ -130,4 +130,3 @@ impl Ord for Text {
         self.as_str().cmp(other.as_str())
     }
 }
-
