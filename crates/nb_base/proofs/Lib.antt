@@ -1,4 +1,6 @@
 pub mod HeaderLaws
 pub mod Joins
 pub mod ListLaws
+pub mod Maps
 pub mod Pieces
+pub mod Trees

@@ -1,7 +1,11 @@
 pub mod Causes
+pub mod Meanings
 pub mod Messages
 pub mod MessagesLaws
+pub mod Orders
 pub mod SettingsRules
+pub mod Shown
+pub mod Sound
 pub mod Stream
 pub mod Takes
 pub mod Told
