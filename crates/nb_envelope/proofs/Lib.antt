@@ -1,0 +1,10 @@
+pub mod Reading
+pub mod Writing
+pub mod Again
+pub mod InputLaws
+pub mod WriteLaws
+pub mod ReadLaws
+pub mod HeaderLaws
+pub mod FormatLaws
+pub mod ValueLaws
+pub mod EnvelopeLaws

@@ -1,0 +1,149 @@
+use crate::{InputFault, InputKind, LineFault, Place, read_line, read_lines, write_line};
+use nb_base::{Envelope, Text};
+use std::alloc::Global;
+use std::test::Fail;
+
+// The headers and the body as one text, or the reason.
+fn shown(alloc: Global, line: &[u8]) -> Result<String, Fail> {
+    match read_line(alloc, line) {
+        Ok(e) => {
+            let mut out = String::new(alloc);
+            for i in 0..e.headers().len() {
+                let (name, text) = e.headers().at(i);
+                out.push_str(name)?;
+                out.push_str("=")?;
+                out.push_str(text.as_str())?;
+                out.push_str(";")?;
+            }
+            out.push_str(e.body().as_str())?;
+            Ok(out)
+        }
+        Err(LineFault::TooLong) => Ok(String::from_str(alloc, "TooLong")?),
+        Err(LineFault::NotJson) => Ok(String::from_str(alloc, "NotJson")?),
+        Err(LineFault::NotEnvelope(Place::Root)) => Ok(String::from_str(alloc, "Root")?),
+        Err(LineFault::NotEnvelope(Place::Headers)) => Ok(String::from_str(alloc, "Headers")?),
+        Err(LineFault::NotEnvelope(Place::Header(n))) => {
+            Ok(format!(in alloc; "Header {}", n.as_str())?)
+        }
+        Err(LineFault::NotEnvelope(Place::Body)) => Ok(String::from_str(alloc, "Body")?),
+        Err(LineFault::NoId) => Ok(String::from_str(alloc, "NoId")?),
+        Err(LineFault::NoMemory) => Ok(String::from_str(alloc, "NoMemory")?),
+    }
+}
+
+#[test]
+fn lines_are_read(rt: HostRuntime) -> Result<(), Fail> {
+    let alloc = rt.alloc();
+    assert_eq!(rt;
+        shown(
+            alloc,
+            b"{\"headers\":{\"NServiceBus.MessageId\":\"m\",\"B\":\"2\",\"A\":\"1\",\"N\":null},\"body\":\"x\",\"more\":1}"
+        )?
+        .as_str(),
+        "A=1;B=2;NServiceBus.MessageId=m;x"
+    );
+    assert_eq!(rt;
+        shown(alloc, b"{\"headers\":{\"NServiceBus.MessageId\":\"m\"}}")?.as_str(),
+        "NServiceBus.MessageId=m;"
+    );
+    assert_eq!(rt;
+        shown(
+            alloc,
+            b"{\"headers\":{\"NServiceBus.MessageId\":\"m\",\"NServiceBus.MessageId\":\"n\"},\"body\":null}"
+        )?
+        .as_str(),
+        "NServiceBus.MessageId=n;"
+    );
+    assert_eq!(rt;
+        shown(alloc, b"{\"headers\":{},\"body\":\"\"}")?.as_str(),
+        "NoId"
+    );
+    assert_eq!(rt;
+        shown(
+            alloc,
+            b"{\"headers\":{\"NServiceBus.MessageId\":\"\"},\"body\":\"\"}"
+        )?
+        .as_str(),
+        "NoId"
+    );
+    assert_eq!(rt;
+        shown(alloc, b"{\"headers\":{\"b\":1,\"a\":true},\"body\":3}")?.as_str(),
+        "Header a"
+    );
+    assert_eq!(rt;
+        shown(alloc, b"{\"headers\":{},\"body\":3}")?.as_str(),
+        "Body"
+    );
+    assert_eq!(rt; shown(alloc, b"{\"body\":3}")?.as_str(), "Headers");
+    assert_eq!(rt; shown(alloc, b"{\"headers\":null}")?.as_str(), "Headers");
+    assert_eq!(rt; shown(alloc, b"[]")?.as_str(), "Root");
+    assert_eq!(rt; shown(alloc, b"{\"headers\":{}")?.as_str(), "NotJson");
+    assert_eq!(rt; shown(alloc, b"")?.as_str(), "NotJson");
+    assert_eq!(rt; shown(alloc, b"\xff")?.as_str(), "NotJson");
+    let long = vec![in alloc; b'x'; 262145]?;
+    assert_eq!(rt; shown(alloc, long.as_slice())?.as_str(), "TooLong");
+    Ok(())
+}
+
+#[test]
+fn lines_are_written(rt: HostRuntime) -> Result<(), Fail> {
+    let alloc = rt.alloc();
+    let mut e = Envelope::new(
+        alloc,
+        &Text::new(alloc, "m")?,
+        Text::new(alloc, "{\"a\":\"\u{e9}\n\"}")?,
+    )?;
+    e.set_header(alloc, "B", Text::new(alloc, "2")?)?;
+    e.set_header(alloc, "A", Text::new(alloc, "1")?)?;
+    let line = write_line(alloc, &e)?;
+    assert_eq!(rt;
+        std::str::from_utf8(line.as_slice())?,
+        "{\"body\":\"{\\\"a\\\":\\\"\u{e9}\\n\\\"}\",\"headers\":{\"A\":\"1\",\"B\":\"2\",\"NServiceBus.MessageId\":\"m\"}}"
+    );
+    Ok(())
+}
+
+// The number of messages, or the line and its kind.
+fn counted(alloc: Global, input: &[u8]) -> Result<String, Fail> {
+    match read_lines(alloc, input) {
+        Ok(list) => Ok(format!(in alloc; "{}", list.len())?),
+        Err(InputFault { line, kind }) => {
+            let kind = match kind {
+                InputKind::TooMuch => "TooMuch",
+                InputKind::TooMany => "TooMany",
+                InputKind::Line(LineFault::TooLong) => "TooLong",
+                InputKind::Line(LineFault::NotJson) => "NotJson",
+                InputKind::Line(_) => "Line",
+                InputKind::NoMemory => "NoMemory",
+            };
+            Ok(format!(in alloc; "{line} {kind}")?)
+        }
+    }
+}
+
+#[test]
+fn inputs_are_read(rt: HostRuntime) -> Result<(), Fail> {
+    let alloc = rt.alloc();
+    let feeds = vec![in alloc; b'\n'; 100001]?;
+    assert_eq!(rt; counted(alloc, b"")?.as_str(), "0");
+    assert_eq!(rt;
+        counted(alloc, feeds.as_slice().split_at(100000).0)?.as_str(),
+        "0"
+    );
+    assert_eq!(rt;
+        counted(alloc, feeds.as_slice())?.as_str(),
+        "100001 TooMany"
+    );
+    assert_eq!(rt;
+        counted(
+            alloc,
+            b"{\"headers\":{\"NServiceBus.MessageId\":\"m\"}}\r\n\n{\"headers\":{\"NServiceBus.MessageId\":\"n\"}}"
+        )?
+        .as_str(),
+        "2"
+    );
+    assert_eq!(rt; counted(alloc, b"\r\n\r\nx\n{")?.as_str(), "3 NotJson");
+    let long = vec![in alloc; b'x'; 262145]?;
+    assert_eq!(rt; counted(alloc, long.as_slice())?.as_str(), "1 TooLong");
+    Ok(())
+}

@@ -1,0 +1,3 @@
+pub mod HeaderNames
+pub mod Moments
+pub mod Reads
