@@ -4,9 +4,8 @@
 use nb_base::{HostClock, NoMemory, ReadSource, Text, WriteSink};
 use nb_cells::MemCells;
 use nb_endpoint::{Ended, Status, run_alone};
-use std::env;
-use std::io;
 use std::process::ExitCode;
+use std::{env, io};
 
 /// A word of the command line.
 fn text(word: String) -> Result<Text, Status> {

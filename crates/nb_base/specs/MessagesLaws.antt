@@ -1,5 +1,5 @@
 -- How an ordered map of strings stands for headers, and what a change of one header leaves.
-use Rattle.std.specs.Prelude.{◌≡◌, ◌≢◌, ℕ, ◌<◌, List, [], ◌∷◌, map, length, Bool, true, false, bytes_eq, if◌then◌else◌, cond, Option, Some, None, nat_lt, String, string_bytes, string_eq, refl}
+use Rattle.std.specs.Prelude.{◌≡◌, ◌≢◌, ℕ, ◌<◌, List, [], ◌∷◌, length, Bool, true, false, bytes_eq, if◌then◌else◌, cond, Some, nat_lt, String, string_bytes, string_eq, refl}
 use Rattle.std.proofs.Common.{◌∙◌, sym, arith, lt-ltb}
 use Rattle.std.specs.declared.alloc.Global.{Global}
 use Rattle.std.specs.List.{IsDistinct, AllByRecursion}
@@ -7,7 +7,7 @@ use Rattle.std.specs.Map.{lookup, remove_entry, keys_of}
 use Rattle.std.specs.Option.{option_map_or}
 use Rattle.std.specs.Cmp.Lexicographic.{bytes_decides}
 use Rattle.indexmap.specs.IndexMap.{insert_entry}
-use Rattle.nb_base.specs.Messages.{Pairs, names, header, with_header, without_header, seen, id_name}
+use Rattle.nb_base.specs.Messages.{Pairs, names, header, with_header, without_header, seen}
 
 pub header-seen : (q : List ℕ) (es : List (String Global × List ℕ)) → lookup (λ k. bytes_eq q (string_bytes k)) es ≡ header (seen es) q
 header-seen q [] = refl

@@ -1,5 +1,5 @@
 -- What tables and posts keep: their grammar and their bounds.
-use Rattle.std.specs.Prelude.{◌≡◌, ◌≢◌, ℕ, ◌+◌, ◌≤◌, ◌<◌, ◌^◌, List, [], ◌∷◌, ◌++◌, map as map_list, length, Bool, true, false, ◌&&◌, bytes_eq, Some, nat_lt}
+use Rattle.std.specs.Prelude.{◌≡◌, ◌≢◌, ℕ, ◌≤◌, ◌<◌, ◌^◌, List, [], ◌∷◌, ◌++◌, map as map_list, length, Bool, true, false, ◌&&◌, bytes_eq, Some, nat_lt}
 use Rattle.std.specs.Fmt.{decimal}
 use Rattle.std.specs.Char.{is_ascii_digit}
 use Rattle.std.specs.List.{AllByRecursion, IsDistinct, list_all}

@@ -48,8 +48,8 @@ keys_above p space [] here h = tt
 keys_above p space (e ∷ es) here h =
     (elim (e.0.space == space) as (λ b. (e.0.space == space) ≡ b → AllByRecursion (λ k. slice_cmp nat_cmp p.key k ≡ Less) (map (λ c. c.key) (cond b (cell_of e ∷ within space es) (within space es)))) [
       | true ↦ λ there.
-        let level : nat_cmp p.space e.0.space ≡ Equal = ap (nat_cmp p.space) (eqb-true e.0.space space there ∙ sym here) ∙ tied_itself nat_cmp_total p.space in
-        (sym (ap (λ o. ordering_then o (slice_cmp nat_cmp p.key e.0.key)) level) ∙ h.0, keys_above p space es here h.1)
+          let level : nat_cmp p.space e.0.space ≡ Equal = ap (nat_cmp p.space) (eqb-true e.0.space space there ∙ sym here) ∙ tied_itself nat_cmp_total p.space in
+          (sym (ap (λ o. ordering_then o (slice_cmp nat_cmp p.key e.0.key)) level) ∙ h.0, keys_above p space es here h.1)
       | false ↦ λ there. keys_above p space es here h.1
     ]) refl
 
@@ -73,8 +73,8 @@ HasEntry es e = finite.find place_cmp e.0 es ≡ Some e.1
 all_found : (es : List (Place × List ℕ)) → IsStrictlySortedBy place_cmp (keys_of es) → All (HasEntry es) es
 all_found es sorted =
     All-weaker (Contains es) (HasEntry es)
-        (λ e has. find-lookup e.0 es ∙ lookup-from_Contains (eq_by_cmp_equiv place_total) e.0 e.1 es (IsDistinct-from_sorted place_cmp (keys_of es) sorted) has)
-        es (All-contains_itself es)
+    (λ e has. find-lookup e.0 es ∙ lookup-from_Contains (eq_by_cmp_equiv place_total) e.0 e.1 es (IsDistinct-from_sorted place_cmp (keys_of es) sorted) has)
+    es (All-contains_itself es)
 
 -- the cell is in the space, and is what the entries have at its place
 abbrev pub IsFound : ℕ → List (Place × List ℕ) → Cell → Type 0
@@ -86,8 +86,8 @@ sound_within space whole (e ∷ es) found =
     let rest = sound_within space whole es (All-tail (HasEntry whole) e es found) in
     (elim (e.0.space == space) as (λ b. (e.0.space == space) ≡ b → All (IsFound space whole) (cond b (cell_of e ∷ within space es) (within space es))) [
       | true ↦ λ there.
-        let here : e.0.space ≡ space = eqb-true e.0.space space there in
-        All-cons (IsFound space whole) (cell_of e) (within space es) (here, subst (λ s. finite.find place_cmp (record { space = s; key = e.0.key }) whole ≡ Some e.1) here (All-head (HasEntry whole) e es found)) rest
+          let here : e.0.space ≡ space = eqb-true e.0.space space there in
+          All-cons (IsFound space whole) (cell_of e) (within space es) (here, subst (λ s. finite.find place_cmp (record { space = s; key = e.0.key }) whole ≡ Some e.1) here (All-head (HasEntry whole) e es found)) rest
       | false ↦ λ there. rest
     ]) refl
 
@@ -109,10 +109,10 @@ complete_within space key bytes (e ∷ es) found =
     let wanted : Cell = record { space = space; key = key; bytes = bytes } in
     (elim (is_eq (place_cmp q e.0)) as (λ b. is_eq (place_cmp q e.0) ≡ b → cond b (Some e.1) (finite.find place_cmp q es) ≡ Some bytes → Contains (within space (e ∷ es)) wanted) [
       | true ↦ λ tied found.
-        let same : q ≡ e.0 = same_place q e.0 ((Equal-is (place_cmp q e.0)).0 tied) in
-        let here : (e.0.space == space) ≡ true = eq-eqb e.0.space space (ap (λ p. p.space) (sym same)) in
-        subst (λ b. Contains (cond b (cell_of e ∷ within space es) (within space es)) wanted) (sym here)
-            (first (cell_of e) wanted (within space es) (ap (λ p. cell_of (p, e.1)) (sym same) ∙ ap (λ b. cell_of (q, b)) (inside e.1 bytes found)))
+          let same : q ≡ e.0 = same_place q e.0 ((Equal-is (place_cmp q e.0)).0 tied) in
+          let here : (e.0.space == space) ≡ true = eq-eqb e.0.space space (ap (λ p. p.space) (sym same)) in
+          subst (λ b. Contains (cond b (cell_of e ∷ within space es) (within space es)) wanted) (sym here)
+          (first (cell_of e) wanted (within space es) (ap (λ p. cell_of (p, e.1)) (sym same) ∙ ap (λ b. cell_of (q, b)) (inside e.1 bytes found)))
       | false ↦ λ apart found. later (e.0.space == space) (cell_of e) wanted (within space es) (complete_within space key bytes es found)
     ]) refl found
 

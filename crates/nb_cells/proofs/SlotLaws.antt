@@ -56,20 +56,20 @@ same_table t u alike = finite.same_map place_total same_place t u alike
 pub shown-updated : (m n : BTreeMap Place (Option (List ℕ))) (p : Place) (w : Option (Option (List ℕ))) → UpdatesBy place_cmp (place_cmp p) m n w → shown n.entries ≡ with_slot (shown m.entries) p (option_flatten w)
 shown-updated m n p w updates =
     same_table _ _ (λ q.
-        get-shown n.entries q ∙ ap option_flatten (updates.0 q) ∙ flat-cond (is_at (place_cmp p) q) w _
-        ∙ ap (λ b. cond b (option_flatten w) (option_flatten (get place_cmp m q))) ((eq_by_cmp_equiv place_total).symm p q)
-        ∙ ap (cond (eq_by_cmp place_cmp q p) (option_flatten w)) (sym (get-shown m.entries q))
-        ∙ sym (get-with_slot (shown m.entries) p (option_flatten w) q))
+    get-shown n.entries q ∙ ap option_flatten (updates.0 q) ∙ flat-cond (is_at (place_cmp p) q) w _
+    ∙ ap (λ b. cond b (option_flatten w) (option_flatten (get place_cmp m q))) ((eq_by_cmp_equiv place_total).symm p q)
+    ∙ ap (cond (eq_by_cmp place_cmp q p) (option_flatten w)) (sym (get-shown m.entries q))
+    ∙ sym (get-with_slot (shown m.entries) p (option_flatten w) q))
 
 -- no cell is taken away where none is
 pub with_slot-none : (t : ByPlace) (p : Place) → finite.get t p ≡ None → with_slot t p None ≡ t
 with_slot-none t p absent =
     same_table _ _ (λ q.
-        get-with_slot t p None q
-        ∙ (elim (eq_by_cmp place_cmp q p) as (λ b. eq_by_cmp place_cmp q p ≡ b → cond b None (finite.get t q) ≡ finite.get t q) [
-          | true ↦ λ e. sym (finite.get_tied place_total t p q (tied_back place_total q p ((Equal-is (place_cmp q p)).0 e)) ∙ absent)
-          | false ↦ λ e. refl
-        ]) refl)
+    get-with_slot t p None q
+    ∙ (elim (eq_by_cmp place_cmp q p) as (λ b. eq_by_cmp place_cmp q p ≡ b → cond b None (finite.get t q) ≡ finite.get t q) [
+      | true ↦ λ e. sym (finite.get_tied place_total t p q (tied_back place_total q p ((Equal-is (place_cmp q p)).0 e)) ∙ absent)
+      | false ↦ λ e. refl
+    ]) refl)
 
 -- room for a cell shows none
 pub shown-room : (m n : BTreeMap Place (Option (List ℕ))) (p : Place) → get place_cmp m p ≡ None → UpdatesBy place_cmp (place_cmp p) m n (Some None) → shown n.entries ≡ shown m.entries

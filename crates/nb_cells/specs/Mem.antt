@@ -23,8 +23,8 @@ pub record Mem : Type 0 where
 abbrev pub mem_code : Coded Mem
 mem_code =
     code_by (ByPlace × (Option ByPlace × (ℕ × (ℕ × (ℕ × FaultPlan))))) (coded× by_place_code (coded× (coded_option by_place_code) (coded× coded_ℕ (coded× coded_ℕ (coded× coded_ℕ plan_code)))))
-        (λ c. (c.told, (c.stopped, (c.reads, (c.applies, (c.faults, c.plan))))))
-        (λ p. record { told = p.0; stopped = p.1.0; reads = p.1.1.0; applies = p.1.1.1.0; faults = p.1.1.1.1.0; plan = p.1.1.1.1.1 }) (λ _. refl)
+    (λ c. (c.told, (c.stopped, (c.reads, (c.applies, (c.faults, c.plan))))))
+    (λ p. record { told = p.0; stopped = p.1.0; reads = p.1.1.0; applies = p.1.1.1.0; faults = p.1.1.1.1.0; plan = p.1.1.1.1.1 }) (λ _. refl)
 
 -- a store before its first call
 abbrev pub opened : ByPlace → FaultPlan → Mem

@@ -40,4 +40,4 @@ stop_code = code_by (ℕ × Bool) (coded× coded_ℕ coded_bool) (λ s. (s.apply
 abbrev pub plan_code : Coded FaultPlan
 plan_code =
     code_by (List ℕ × (List ℕ × Option Stop)) (coded× (coded_list coded_ℕ) (coded× (coded_list coded_ℕ) (coded_option stop_code))) (λ p. (p.reads, (p.applies, p.stop)))
-        (λ p. record { reads = p.0; applies = p.1.0; stop = p.1.1 }) (λ _. refl)
+    (λ p. record { reads = p.0; applies = p.1.0; stop = p.1.1 }) (λ _. refl)

@@ -32,12 +32,7 @@ pub trait Cells {
         ensures { result ≡ count self.now };
 
     /// The bytes of the cell at a place.
-    fn get(
-        &mut self,
-        alloc: Global,
-        space: u8,
-        key: &Bytes,
-    ) -> Result<Option<Bytes>, CellFault>
+    fn get(&mut self, alloc: Global, space: u8, key: &Bytes) -> Result<Option<Bytes>, CellFault>
         requires { IsSpace space }
         ensures honest_before { honest self.new → honest self.old }
         ensures kept_firm { honest self.new → firm self.old → firm self.new }

@@ -82,7 +82,9 @@ impl MemCells {
         ensures { IfOk result (λ cells. cells ≡ cells_of (left self)) }
     {
         let MemCells {
-            mut table, stopped, ..
+            mut table,
+            stopped,
+            ..
         } = self;
         if let Some(late) = stopped {
             table.write(alloc, &late)?;
@@ -152,12 +154,7 @@ impl Cells for MemCells {
         self.faults
     }
 
-    fn get(
-        &mut self,
-        _alloc: Global,
-        space: u8,
-        key: &Bytes,
-    ) -> Result<Option<Bytes>, CellFault>
+    fn get(&mut self, _alloc: Global, space: u8, key: &Bytes) -> Result<Option<Bytes>, CellFault>
         ensures turn { ComesOut (next_read self.old) self.old (after_read (next_read self.old) self.old) self.new result }
         ensures value { IfOk result (λ found. found ≡ told self.old.told space key.now) }
         ensures cause { IsCounted self.old.faults self.new.faults result }

@@ -45,24 +45,24 @@ skipped : (l : Ledger) (c : Credit) (cs : List Credit) → is_recorded l c.id �
 skipped l c cs known =
     filter_twice (λ d. not (is_recorded l d.id)) (λ d. not (bytes_eq c.id d.id)) (λ d. not (is_recorded l d.id))
     (λ d. by_id c d (λ b. not (is_recorded l d.id) ≡ (not b && not (is_recorded l d.id)))
-      (λ is. ap not (ap (is_recorded l) (sym is) ∙ known))
-      (λ other. refl))
+    (λ is. ap not (ap (is_recorded l) (sym is) ∙ known))
+    (λ other. refl))
     cs
 
 -- once a credit is handled, what is new has another id
 entered : (l : Ledger) (c : Credit) (cs : List Credit) → new_in (served l c) cs ≡ new_in l (others c.id cs)
 entered l c cs =
     sym (filter_twice (λ d. not (is_recorded l d.id)) (λ d. not (bytes_eq c.id d.id)) (λ d. not (is_recorded (served l c) d.id))
-      (λ d. by_id c d (λ b. not (is_recorded (served l c) d.id) ≡ (not b && not (is_recorded l d.id)))
-        (λ is. ap not (ap (is_recorded (served l c)) (sym is) ∙ ap is_some (at_same names l.records c.id (l.commits + 1))))
-        (λ other. ap not (ap is_some (at_other names l.records c.id (l.commits + 1) d.id (λ is. other (sym is))))))
-      cs)
+    (λ d. by_id c d (λ b. not (is_recorded (served l c) d.id) ≡ (not b && not (is_recorded l d.id)))
+    (λ is. ap not (ap (is_recorded (served l c)) (sym is) ∙ ap is_some (at_same names l.records c.id (l.commits + 1))))
+    (λ other. ap not (ap is_some (at_other names l.records c.id (l.commits + 1) d.id (λ is. other (sym is))))))
+    cs)
 
 replayed_from : (l : Ledger) (cs : List Credit) → replayed l cs ≡ handled l (new_in l (firsts cs))
 replayed_from l [] = refl
 replayed_from l (c ∷ cs) =
     (elim (is_recorded l c.id) as (λ b. is_recorded l c.id ≡ b
-        → replayed (cond b l (served l c)) cs ≡ handled l (cond (not b) (c ∷ new_in l (others c.id (firsts cs))) (new_in l (others c.id (firsts cs))))) [
+    → replayed (cond b l (served l c)) cs ≡ handled l (cond (not b) (c ∷ new_in l (others c.id (firsts cs))) (new_in l (others c.id (firsts cs))))) [
       | true ↦ λ known. replayed_from l cs ∙ ap (handled l) (sym (skipped l c (firsts cs) known))
       | false ↦ λ new. replayed_from (served l c) cs ∙ ap (handled (served l c)) (entered l c (firsts cs))
     ]) refl

@@ -58,7 +58,8 @@ impl Ledger {
     {
         let version = self.commits + 1;
         let value = self.value_at(account) + u64::from(amount);
-        self.rows.insert(account.copy()?, Balance { version, value })?;
+        self.rows
+            .insert(account.copy()?, Balance { version, value })?;
         self.records.insert(id.copy()?, version)?;
         self.commits = version;
         Ok(())

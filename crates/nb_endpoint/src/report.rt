@@ -76,12 +76,7 @@ fn push_records(
 }
 
 /// The report of a ledger at a moment, and of the next number.
-pub fn report(
-    alloc: Global,
-    moment: Moment,
-    ledger: &Ledger,
-    next: u64,
-) -> Result<String, NoMemory>
+pub fn report(alloc: Global, moment: Moment, ledger: &Ledger, next: u64) -> Result<String, NoMemory>
     ensures { IfOk result (λ s. string_bytes s ≡ report moment ledger.now next) }
 {
     let mut out = head(alloc, moment, ledger.commits, next)?;

@@ -61,7 +61,7 @@ envelope_found bytes m rest fits e =
     let f = format_headers.found bytes h.0.0 h.0.1 fits h.1 in
     let g = format_text.found h.0.1 b.0.0 b.0.1 f.2 b.1 in
     let parts : bytes ≡ spelled_envelope made.0 ++ b.0.1 =
-        f.0 ∙ ap (λ (x : List ℕ). spelled_list spelled_header h.0.0 ++ x) g.0 ∙ sym (append_assoc (spelled_list spelled_header h.0.0) (spelled_text b.0.0) b.0.1) in
+    f.0 ∙ ap (λ (x : List ℕ). spelled_list spelled_header h.0.0 ++ x) g.0 ∙ sym (append_assoc (spelled_list spelled_header h.0.0) (spelled_text b.0.0) b.0.1) in
     let message : IsMessage made.0 = record { distinct = AreDistinct-from h.0.0 f.1.1; id = t.0 } in
     subst (Found IsEnvelope spelled_envelope bytes) t.1 (parts, record { message = message; headers = f.1.0; body = g.1 }, g.2)
 

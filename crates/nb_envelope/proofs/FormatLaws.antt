@@ -171,7 +171,7 @@ text_found bytes t rest fits e =
     let g = two_tests (nat_lt (length after) n) (is_utf8 (take n after)) (take n after, drop n after) (t, rest) b.2 in
     let len : length (take n after) ≡ n = omega (arith, ltb-false _ _ g.0, length-take n after) in
     let parts : bytes ≡ spelled_text (take n after) ++ drop n after =
-        f.0 ∙ rw len (ap (λ (x : List ℕ). spelled_u32 n ++ x) (sym (take-append-drop n after)) ∙ sym (append_assoc (spelled_u32 n) (take n after) (drop n after))) in
+    f.0 ∙ rw len (ap (λ (x : List ℕ). spelled_u32 n ++ x) (sym (take-append-drop n after)) ∙ sym (append_assoc (spelled_u32 n) (take n after) (drop n after))) in
     let short : length (take n after) < 2 ^ 32 = omega (arith, len, f.1) in
     subst (Found IsText spelled_text bytes) g.2 (parts, (IsUtf8-from_is_utf8 (take n after) g.1, short), IsBytes-drop n after f.2)
 
@@ -217,7 +217,7 @@ format_both {A} {B} Is spelled read Is' spelled' read' first second = record {
       let g = second.found x.0.1 y.0.0 y.0.1 f.2 y.1 in
       let both : (A × B) × List ℕ = ((x.0.0, y.0.0), y.0.1) in
       let parts : bytes ≡ (spelled x.0.0 ++ spelled' y.0.0) ++ y.0.1 =
-          f.0 ∙ ap (λ (t : List ℕ). spelled x.0.0 ++ t) g.0 ∙ sym (append_assoc (spelled x.0.0) (spelled' y.0.0) y.0.1) in
+      f.0 ∙ ap (λ (t : List ℕ). spelled x.0.0 ++ t) g.0 ∙ sym (append_assoc (spelled x.0.0) (spelled' y.0.0) y.0.1) in
       subst (Found (λ p. Is p.0 × Is' p.1) (λ p. spelled p.0 ++ spelled' p.1) bytes) (some_is both (p, rest) y.2) (parts, (f.1, g.1), g.2);
   again = λ p rest is.
       rw (append_assoc (spelled p.0) (spelled' p.1) rest, first.again p.0 (spelled' p.1 ++ rest) is.0, second.again p.1 rest is.1) refl;
@@ -267,7 +267,7 @@ format_list Is spelled read format = record {
       let g = items_found Is spelled read format n.0.0 n.0.1 (xs, rest) f.2 n.2 in
       let short : length xs < 2 ^ 32 = omega (arith, f.1, g.count) in
       let parts : bytes ≡ spelled_list spelled xs ++ rest =
-          f.0 ∙ rw (← g.count) (ap (λ (t : List ℕ). spelled_u32 (length xs) ++ t) g.parts ∙ sym (append_assoc (spelled_u32 (length xs)) (flat_map spelled xs) rest)) in
+      f.0 ∙ rw (← g.count) (ap (λ (t : List ℕ). spelled_u32 (length xs) ++ t) g.parts ∙ sym (append_assoc (spelled_u32 (length xs)) (flat_map spelled xs) rest)) in
       (parts, (short, g.fits), g.rest);
   again = λ xs rest is.
       rw (append_assoc (spelled_u32 (length xs)) (flat_map spelled xs) rest, format_u32.again (length xs) (flat_map spelled xs ++ rest) is.0) (items_again Is spelled read format xs rest is.1);

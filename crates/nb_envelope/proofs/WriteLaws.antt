@@ -24,7 +24,7 @@ pub Wrote-next : {A : Type 0} (Is : A → Type 0) (spelled : A → List ℕ) (be
     → Wrote Is spelled before now (take i xs) → slice_get xs i ≡ Some x → after ≡ now ++ spelled x → Is x → Wrote Is spelled before after (take (i + 1) xs)
 Wrote-next Is spelled before now after xs i x so_far at put one =
     let one_more : flat_map spelled (take i xs ++ x ∷ []) ≡ flat_map spelled (take i xs) ++ spelled x =
-        flat_map-append spelled (take i xs) (x ∷ []) ∙ ap (λ (t : List ℕ). flat_map spelled (take i xs) ++ t) (flat_map-cons spelled x [] ∙ append-nil (spelled x)) in
+    flat_map-append spelled (take i xs) (x ∷ []) ∙ ap (λ (t : List ℕ). flat_map spelled (take i xs) ++ t) (flat_map-cons spelled x [] ∙ append-nil (spelled x)) in
     rw (take_next xs i x at) (record {
       bytes = put ∙ rw (so_far.bytes, one_more) (append_assoc before (flat_map spelled (take i xs)) (spelled x));
       fits = all_push Is (take i xs) x so_far.fits one;

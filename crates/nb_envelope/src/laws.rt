@@ -12,33 +12,28 @@ pub fn law_numbers()
     ensures short { IsFormat (λ n. n < 2 ^ 32) spelled_u32 u32_in }
     ensures long { IsFormat (λ n. n < 2 ^ 64) spelled_u64 u64_in }
     ensures signed { IsFormat (FitsSigned w64) spelled_int int_in }
-{
-}
+{}
 
 /// Texts.
 pub fn law_texts()
     ensures both_ways { IsFormat IsText spelled_text text_in }
     ensures none_begins { NoneBegins IsText spelled_text }
-{
-}
+{}
 
 /// Values.
 pub fn law_values()
     ensures both_ways { IsFormat IsValue spelled_value value_in }
     ensures none_begins { NoneBegins IsValue spelled_value }
-{
-}
+{}
 
 /// Dues.
 pub fn law_dues()
     ensures both_ways { IsFormat IsDue spelled_due due_in }
     ensures none_begins { NoneBegins IsDue spelled_due }
-{
-}
+{}
 
 /// Envelopes.
 pub fn law_envelopes()
     ensures both_ways { IsFormat IsEnvelope spelled_envelope envelope_in }
     ensures none_begins { NoneBegins IsEnvelope spelled_envelope }
-{
-}
+{}

@@ -176,11 +176,7 @@ fn add_header<'a>(
 }
 
 /// So many headers, each name once.
-fn take_headers(
-    alloc: Global,
-    count: u32,
-    bytes: &[u8],
-) -> Result<(Headers, &[u8]), FormatFault>
+fn take_headers(alloc: Global, count: u32, bytes: &[u8]) -> Result<(Headers, &[u8]), FormatFault>
     ensures { Gives (λ x. (x.0, x.1.now)) result (headers_of count bytes.now) }
 {
     let mut headers = Headers::new(alloc);

@@ -52,7 +52,10 @@ fn declared_at(name: &[u8], declared: &Names) -> Option<usize>
     ensures place { result ≡ position (bytes_eq name.now) declared.now }
     ensures within { IfSome result (λ i. i < length declared.now) }
 {
-    declared.as_slice().iter().position(|other| name == other.as_str().as_bytes())
+    declared
+        .as_slice()
+        .iter()
+        .position(|other| name == other.as_str().as_bytes())
 }
 
 /// The position at which the name of an entry is declared.

@@ -1,4 +1,4 @@
-use Rattle.std.proofs.Common.{◌≤◌, ◌+◌, length, arith, length-drop}
+use Rattle.std.proofs.Common.{arith, length-drop}
 use Rattle.std.proofs.lemmas.List.{take_rest}
 use Rattle.nb_base.proofs.Joins.{take_plus, Appends-more}
 use Rattle.nb_base.proofs.sink.write_all.Goals as goal

@@ -1,4 +1,3 @@
-use Rattle.std.proofs.Common.{refl}
 use Rattle.nb_base.specs.Messages.{id_name}
 use Rattle.nb_base.specs.MessagesLaws.{test-without_header}
 use Rattle.nb_base.proofs.envelope.Envelope.without.Goals as goal

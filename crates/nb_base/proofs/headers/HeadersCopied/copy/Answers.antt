@@ -1,4 +1,4 @@
-use Rattle.std.proofs.Common.{◌∙◌, refl}
+use Rattle.std.proofs.Common.{◌∙◌}
 use Rattle.nb_base.proofs.HeaderLaws.{with_header-next}
 use Rattle.nb_base.proofs.headers.HeadersCopied.copy.Goals as goal
 

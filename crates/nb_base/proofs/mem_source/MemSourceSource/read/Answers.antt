@@ -1,4 +1,4 @@
-use Rattle.std.proofs.Common.{◌≡◌, ◌<◌, ◌≤◌, ◌+◌, ◌-◌, ℕ, length, take, drop, min, arith}
+use Rattle.std.proofs.Common.{◌≤◌, ◌+◌, length, arith}
 use Rattle.nb_base.proofs.Pieces.{copied_piece, no_piece}
 use Rattle.nb_base.proofs.mem_source.MemSourceSource.read.Goals as goal
 
