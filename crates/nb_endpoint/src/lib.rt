@@ -11,3 +11,6 @@ mod top;
 
 pub use status::{Input, Refusal, Status};
 pub use top::{Ended, run_alone};
+
+#[cfg(test)]
+mod tests;

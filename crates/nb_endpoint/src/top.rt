@@ -11,6 +11,7 @@ use nb_cells::Cells;
 use std::alloc::Global;
 
 /// What the top call hands back.
+#[derive(Drop)]
 pub struct Ended<P, D> {
     pub status: Status,
     pub post: P,
