@@ -1,4 +1,7 @@
-use crate::{InputFault, InputKind, LineFault, Place, read_line, read_lines, write_line};
+use crate::{
+    FormatFault, InputFault, InputKind, LineFault, Place, from_cell, read_line, read_lines,
+    to_cell, write_line,
+};
 use nb_base::{Envelope, Text};
 use std::alloc::Global;
 use std::test::Fail;
@@ -82,6 +85,83 @@ fn lines_are_read(rt: HostRuntime) -> Result<(), Fail> {
     assert_eq!(rt; shown(alloc, b"\xff")?.as_str(), "NotJson");
     let long = vec![in alloc; b'x'; 262145]?;
     assert_eq!(rt; shown(alloc, long.as_slice())?.as_str(), "TooLong");
+    Ok(())
+}
+
+/// A line with an ignored member of so many arrays in one another.
+fn nested(alloc: Global, depth: usize) -> Result<String, Fail> {
+    let mut line = String::from_str(
+        alloc,
+        "{\"headers\":{\"NServiceBus.MessageId\":\"m\"},\"x\":",
+    )?;
+    for _ in 0..depth {
+        line.push('[')?;
+    }
+    for _ in 0..depth {
+        line.push(']')?;
+    }
+    line.push('}')?;
+    Ok(line)
+}
+
+#[test]
+fn ignored_members_are_tested_too(rt: HostRuntime) -> Result<(), Fail> {
+    let alloc = rt.alloc();
+    let read = "NServiceBus.MessageId=m;";
+    for (line, want) in [
+        (
+            "{\"headers\":{\"NServiceBus.MessageId\":\"m\"},\"x\":1e400}",
+            "NotJson",
+        ),
+        (
+            "{\"headers\":{\"NServiceBus.MessageId\":\"m\"},\"x\":1e-999}",
+            read,
+        ),
+        (
+            "{\"headers\":{\"NServiceBus.MessageId\":\"m\"},\"x\":\"\\ud800\"}",
+            "NotJson",
+        ),
+        (
+            "\u{feff}{\"headers\":{\"NServiceBus.MessageId\":\"m\"}}",
+            "NotJson",
+        ),
+    ] {
+        assert_eq!(rt; shown(alloc, line.as_bytes())?.as_str(), want, "in {line}");
+    }
+    assert_eq!(rt;
+        shown(alloc, nested(alloc, 126)?.as_bytes())?.as_str(),
+        read
+    );
+    assert_eq!(rt;
+        shown(alloc, nested(alloc, 127)?.as_bytes())?.as_str(),
+        "NotJson"
+    );
+    Ok(())
+}
+
+#[test]
+fn an_envelope_has_one_spelling(rt: HostRuntime) -> Result<(), Fail> {
+    let alloc = rt.alloc();
+    let id = Text::new(alloc, "a")?;
+    assert!(rt; !id.is_empty());
+    let envelope = Envelope::new(alloc, &id, Text::new(alloc, "b")?)?;
+    let cell = to_cell(alloc, &envelope)?;
+    let want =
+        b"\x00\x00\x00\x01\x00\x00\x00\x15NServiceBus.MessageId\x00\x00\x00\x01a\x00\x00\x00\x01b";
+    assert_eq!(rt; cell.as_slice(), want.as_slice());
+    let again = from_cell(alloc, cell.as_slice())?;
+    assert_eq!(rt; again.headers().len(), 1);
+    assert_eq!(rt; again.body().as_str(), "b");
+    let short = cell.as_slice().split_at(38).0;
+    assert!(rt; matches!(&from_cell(alloc, short), Err(FormatFault::Damaged)));
+    let mut long = Vec::from_slice(alloc, cell.as_slice())?;
+    long.push(0)?;
+    assert!(rt;
+        matches!(
+            &from_cell(alloc, long.as_slice()),
+            Err(FormatFault::Damaged)
+        )
+    );
     Ok(())
 }
 
