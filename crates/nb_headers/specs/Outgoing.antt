@@ -1,5 +1,5 @@
 -- The headers of an outgoing message: what ties it to the message during whose handling it is sent.
-use Rattle.std.specs.Prelude.{ℕ, List, [], ◌∷◌, ◌++◌, ◌&&◌, is_some, if◌then◌else◌, Option, Some, None, codes}
+use Rattle.std.specs.Prelude.{ℕ, List, [], ◌∷◌, ◌++◌, Option, Some, None, codes}
 use Rattle.nb_base.specs.Messages.{Message, Pairs, header, id_name}
 use Rattle.nb_base.specs.declared.plan.Target.{Target}
 use Rattle.nb_base.specs.declared.plan.Target.TheVariants.{Send, Local, Publish, Reply, Originator, Timeout}
@@ -68,12 +68,16 @@ abbrev pub to_own : Option SagaName → Pairs
 to_own None = []
 to_own (Some saga) = to_saga saga.saga saga.id
 
+-- a saga of which both the type and the id are there
+abbrev pub to_saga_of : Option (List ℕ) → Option (List ℕ) → Pairs
+to_saga_of None None = []
+to_saga_of None (Some id) = []
+to_saga_of (Some type) None = []
+to_saga_of (Some type) (Some id) = to_saga type id
+
 -- the saga that sent the incoming message, where that message says both its id and its type
 abbrev pub to_sender : Message → Pairs
-to_sender incoming =
-    if is_some (header incoming.headers originating_saga_id) && is_some (header incoming.headers originating_saga_type)
-    then to_saga (header_or incoming originating_saga_type []) (header_or incoming originating_saga_id [])
-    else []
+to_sender incoming = to_saga_of (header incoming.headers originating_saga_type) (header incoming.headers originating_saga_id)
 
 -- A timeout goes to the saga that asked for it, and a reply to the one that sent the incoming message.
 abbrev pub addressee : Message → Target → Option SagaName → Pairs
