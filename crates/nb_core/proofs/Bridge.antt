@@ -8,7 +8,7 @@ use Rattle.nb_core.specs.State.{State, Constants, Held, at_phase, base}
 use Rattle.nb_core.specs.Step.{Event, Step, load, take, look_known, look_new, settle_twin, settle_fault, settle_conflict, settle_commit, send, mark, aside, remove, tick, release, purge, put_back, drop_back, stop, halt}
 
 pub step_after : {c : Constants} {s t : State} {e : Event} → Step c s e t → t ≡ after c s e
-step_after (load room) = refl
+step_after (load named room) = refl
 step_after {c = c} {s = s} (take {w = w} {n = n} idle least) = ap (λ o. given s o (λ n. at_phase s w (Held n))) (sym (least_free_is c s n least))
 step_after (look_known held there known) = rw (held, there, known) refl
 step_after (look_new held there new) = rw (held, there, new) refl

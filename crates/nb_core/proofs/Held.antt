@@ -170,7 +170,7 @@ change_below es next k e e' there b = record {
 }
 
 pub below_kept : {c : Constants} {s s' : State} {e : Event} → Step c s e s' → BelowAt s → BelowAt s'
-below_kept (load room) b = put_below _ _ _ b
+below_kept (load named room) b = put_below _ _ _ b
 below_kept (take i l) b = b
 below_kept (look_known h e r) b = b
 below_kept (look_new h e r) b = b
@@ -194,7 +194,7 @@ holds_none : {p : Phase} → p ≡ Idle → number_of p ≡ None
 holds_none e = ap number_of e
 
 pub holding_kept : {c : Constants} {s s' : State} {e : Event} → Step c s e s' → BelowAt s → HoldingAt c s → HoldingAt c s'
-holding_kept {c = c} {s = s} (load room) b h = new_entry c.settings s.phases s.post.entries s.post.next _ b h
+holding_kept {c = c} {s = s} (load named room) b h = new_entry c.settings s.phases s.post.entries s.post.next _ b h
 holding_kept {c = c} {s = s} (take {w = w} {n = n} i l) b h =
     change c.settings s.phases s.post.entries w (Held n) h (λ m e.
     let at_m : n ≡ m = some_same e in (

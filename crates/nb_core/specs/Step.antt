@@ -2,7 +2,7 @@
 -- lines before the last one say where it is possible, and the last one says the new state. What isn't named stays.
 use Rattle.std.specs.Prelude.{◌≡◌, ◌≢◌, ℕ, ◌+◌, ◌≤◌, ◌<◌, List, [], length, true, Option, Some, None, slice_get}
 use Rattle.std.specs.FinMap as map
-use Rattle.nb_base.specs.Messages.{Message}
+use Rattle.nb_base.specs.Messages.{Message, IsMessage}
 use Rattle.nb_base.specs.Shown.{seen, AreFresh}
 use Rattle.nb_base.specs.Sound.{limit}
 use Rattle.nb_base.specs.declared.entry.Op.{Op}
@@ -23,7 +23,7 @@ pub use Rattle.nb_core.specs.declared.event.Event.TheVariants.{Load, Take, Look,
 
 pub data Step (c : Constants) : State → Event → State → Type 0 where
   load : {s : State} {m : Message}
-      → HasRoom s
+      → IsMessage m → HasRoom s
       → Step c s (Load m) (put s c.settings.endpoint None m)
   take : {s : State} {w n : ℕ}
       → phase s w ≡ Idle → IsLeastFree c s n

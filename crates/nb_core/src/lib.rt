@@ -8,10 +8,12 @@ mod state;
 
 ghost use Rattle.std.specs.Prelude.{◌≡◌, List, [], ◌∷◌, ◌++◌};
 ghost use Rattle.nb_core.specs.After.{after, run};
-ghost use Rattle.nb_core.specs.History.{History, Opening, Run, opened};
+ghost use Rattle.nb_core.specs.History.{History, Run, opened, commits, batches};
 ghost use Rattle.nb_core.specs.Legal.{Legal, joined};
 ghost use Rattle.nb_core.specs.Once.{Once};
-ghost use Rattle.nb_core.specs.State.{Constants, State};
+ghost use Rattle.nb_base.specs.Meanings.{IsMeaning};
+ghost use Rattle.nb_core.specs.Serve.{Serial};
+ghost use Rattle.nb_core.specs.State.{Constants, State, base};
 ghost use Rattle.nb_core.specs.Step.{Event, Halt, Step};
 
 pub use event::{Event, Events};
@@ -19,10 +21,16 @@ pub use history::{History, Opening};
 pub use phase::Phase;
 pub use state::State;
 
+/// The sagas, the rows and the commits at the end of a legal history, and the batches that it recorded, are those of
+/// handling each committed message, one after the other, in commit order.
+pub fn law_serial()
+    ensures { (c : Constants) (h : History) (s : State) → IsMeaning c.meaning → (legal : Legal c h s) →
+        Serial c.meaning c.settings (base (opened h.opening)) (commits legal.run) (base s) (batches legal.run) }
+{}
+
 /// Between two commits of one id there is a purge of it, no earlier than the retention after the first.
 pub fn law_once()
-    ensures { (c : Constants) (o : Opening) (events : List Event) (s : State) →
-        (run : Run c (opened o) events s) → Once run }
+    ensures { (c : Constants) (h : History) (s : State) → (legal : Legal c h s) → Once legal.run }
 {}
 
 /// Two legal histories, of which the second opens with the tables and the post in which the first ends, are one.
