@@ -1,0 +1,13 @@
+pub mod Appending
+pub mod Bridge
+pub mod ByIds
+pub mod Committing
+pub mod Firsts
+pub mod Frees
+pub mod Held
+pub mod Ids
+pub mod Joining
+pub mod Looking
+pub mod Serials
+pub mod Stales
+pub mod Writing

@@ -1,0 +1,62 @@
+//! The core: the states of an endpoint, the events that lead from one to the next, and their histories.
+#![tactic(auto)]
+
+mod event;
+mod history;
+mod phase;
+mod state;
+
+ghost use Rattle.std.specs.Prelude.{◌≡◌, List, [], ◌∷◌, ◌++◌};
+ghost use Rattle.nb_core.specs.After.{after, run};
+ghost use Rattle.nb_core.specs.History.{History, Run, opened, commits, batches};
+ghost use Rattle.nb_core.specs.Legal.{Legal, joined};
+ghost use Rattle.nb_core.specs.Once.{Once};
+ghost use Rattle.nb_base.specs.Meanings.{IsMeaning};
+ghost use Rattle.nb_core.specs.Serve.{Serial};
+ghost use Rattle.nb_core.specs.State.{Constants, State, base};
+ghost use Rattle.nb_core.specs.Step.{Event, Halt, Step};
+
+pub use event::{Event, Events};
+pub use history::{History, Opening};
+pub use phase::Phase;
+pub use state::State;
+
+/// The sagas, the rows and the commits at the end of a legal history, and the batches that it recorded, are those of
+/// handling each committed message, one after the other, in commit order.
+pub fn law_serial()
+    ensures { (c : Constants) (h : History) (s : State) → IsMeaning c.meaning → (legal : Legal c h s) →
+        Serial c.meaning c.settings (base (opened h.opening)) (commits legal.run) (base s) (batches legal.run) }
+{}
+
+/// Between two commits of one id there is a purge of it, no earlier than the retention after the first.
+pub fn law_once()
+    ensures { (c : Constants) (h : History) (s : State) → (legal : Legal c h s) → Once legal.run }
+{}
+
+/// Two legal histories, of which the second opens with the tables and the post in which the first ends, are one.
+pub fn law_runs()
+    ensures { (c : Constants) (first second : History) (s t : State) → Legal c first s → Legal c second t →
+        s.tables ≡ second.opening.tables → s.post ≡ second.opening.post → Legal c (joined first second) t }
+{}
+
+/// A legal run goes on by one step.
+pub fn law_more()
+    ensures { (c : Constants) (s mid t : State) (events : List Event) (event : Event) →
+        Run c s events mid → Step c mid event t → Run c s (events ++ event ∷ []) t }
+{}
+
+/// A Halt at the end may be replaced by any step from there.
+pub fn law_halt()
+    ensures { (c : Constants) (o s t : State) (events : List Event) (store : _) (event : Event) →
+        Run c o (events ++ Halt store ∷ []) s → Step c s event t → Run c o (events ++ event ∷ []) t }
+{}
+
+/// An event leads to one state, which is the computed one.
+pub fn law_after()
+    ensures { (c : Constants) (s t : State) (event : Event) → Step c s event t → t ≡ after c s event }
+{}
+
+/// And so does a list of events.
+pub fn law_run()
+    ensures { (c : Constants) (s t : State) (events : List Event) → Run c s events t → t ≡ run c s events }
+{}
