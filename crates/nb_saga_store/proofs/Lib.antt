@@ -1,0 +1,4 @@
+pub mod ItemsLaws
+pub mod OnceLaws
+pub mod FormatLaws
+pub mod ReadLaws

@@ -1,0 +1,4 @@
+pub mod Spelled
+pub mod Read
+pub mod Maps
+pub mod Writes
