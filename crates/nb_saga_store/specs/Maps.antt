@@ -1,6 +1,7 @@
 -- What stands in the cells of sagas and rows.
 use Rattle.std.specs.Prelude.{◌≡◌, ℕ, List, [], ◌∷◌, bytes_eq, if◌then◌else◌, Option, Some, None}
 use Rattle.std.specs.FinMap as map
+use Rattle.std.specs.List.{AllByRecursion}
 use Rattle.nb_base.specs.Orders.{ByName, BySaga}
 use Rattle.nb_base.specs.Shown.{Stored}
 use Rattle.nb_base.specs.declared.saga_key.SagaKey.{SagaKey}
@@ -28,7 +29,17 @@ pub record HaveStored (m : CellMap) (t : Stored) : Type 0 where
   pub sagas : (key : List ℕ) → m 2 key ≡ saga_bytes t.sagas key
   pub rows : (key : List ℕ) → m 3 key ≡ row_bytes t.rows key
 
+-- what holds of each key with its value
+abbrev pub Each : {K V : Type 0} → (K → V → Type 0) → List (K × V) → Type 0
+Each P es = AllByRecursion (λ e. P e.0 e.1) es
+
+abbrev pub IsSagaAt : SagaKey → SagaRow → Type 0
+IsSagaAt place row = (row.corr ≡ place.corr) × IsPlace place × IsSagaRow row
+
+abbrev pub IsRowAt : List ℕ → Row → Type 0
+IsRowAt name row = IsText name × IsRow row
+
 -- every saga and every row has a spelling
 pub record AreSpelled (t : Stored) : Type 0 where
-  pub places : (place : SagaKey) (row : SagaRow) → map.get t.sagas place ≡ Some row → IsPlace place × (row.corr ≡ place.corr) × IsSagaRow row
-  pub rows : (name : List ℕ) (row : Row) → map.get t.rows name ≡ Some row → IsText name × IsRow row
+  pub sagas : Each IsSagaAt (map.entries t.sagas)
+  pub rows : Each IsRowAt (map.entries t.rows)

@@ -3,7 +3,7 @@ ghost use Rattle.std.specs.Prelude.{◌≡◌, ◌≤◌, ◌<◌, ◌^◌, ◌+
 ghost use Rattle.std.specs.List.{flat_map, AllByRecursion};
 ghost use Rattle.nb_base.specs.Sound.{CanCorrelate, HaveDistinctNames};
 ghost use Rattle.nb_envelope.specs.Spelling.{spelled_list, IsText, IsValue, IsList};
-ghost use Rattle.nb_saga_store.specs.Spelled.{spelled_place, spelled_field, spelled_revision, spelled_saga, spelled_row, IsPlace, IsField, IsRevision, IsSagaRow};
+ghost use Rattle.nb_saga_store.specs.Spelled.{spelled_place, spelled_field, spelled_revision, spelled_saga, spelled_row, IsPlace, IsField, IsRevision, IsSagaRow, IsRow};
 
 use nb_base::{Bytes, Field, Fields, NoMemory, SagaRow, Text, Value};
 use nb_envelope::wire::{put_count, put_int, put_text, put_u32, put_u64, put_value};
@@ -78,9 +78,18 @@ pub(crate) fn saga_bytes(alloc: Global, row: &SagaRow) -> Result<Bytes, NoMemory
     Bytes::of_vec(out)
 }
 
+/// A name as the bytes of a key.
+pub(crate) fn name_bytes(alloc: Global, name: &Text) -> Result<Bytes, NoMemory>
+    ensures bytes { IfOk result (λ b. b ≡ name.now) }
+    ensures fits { OnOk result (IsText name.now) }
+{
+    Bytes::new(alloc, name.as_str().as_bytes())
+}
+
 /// The bytes of a row.
 pub(crate) fn row_bytes(alloc: Global, version: u64, value: i64) -> Result<Bytes, NoMemory>
-    ensures { IfOk result (λ b. b ≡ spelled_row (record { version = version; value = value })) }
+    ensures bytes { IfOk result (λ b. b ≡ spelled_row (record { version = version; value = value })) }
+    ensures fits { IsRow (record { version = version; value = value }) }
 {
     let mut out = Vec::new(alloc);
     out.push(1)?;
