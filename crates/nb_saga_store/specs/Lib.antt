@@ -1,0 +1,5 @@
+pub mod Spelled
+pub mod Read
+pub mod Maps
+pub mod Writes
+pub mod Written
