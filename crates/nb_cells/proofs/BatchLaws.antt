@@ -1,5 +1,5 @@
 -- The slots of changes that were made ready, one change at a time.
-use Rattle.std.specs.Prelude.{◌≡◌, ℕ, ◌+◌, ◌<◌, suc, List, ◌∷◌, take, drop, length, fold, All, Option}
+use Rattle.std.specs.Prelude.{◌≡◌, ℕ, ◌+◌, ◌<◌, suc, List, ◌∷◌, take, drop, length, fold, Option}
 use Rattle.std.proofs.Common.{◌∙◌, sym, ap, subst, arith, get_or}
 use Rattle.std.proofs.Math.ListN.{set}
 use Rattle.std.proofs.lemmas.List.{drop_more, drop-set-lt}

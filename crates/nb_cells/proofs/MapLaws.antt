@@ -1,5 +1,5 @@
 -- Tables as maps of cells.
-use Rattle.std.specs.Prelude.{◌≡◌, ℕ, List, [], ◌∷◌, Bool, cond, ◌&&◌, ◌==◌, Option, Some, None, bytes_eq}
+use Rattle.std.specs.Prelude.{ℕ, List, [], ◌∷◌, cond, ◌&&◌, ◌==◌, Option, Some, None, bytes_eq}
 use Rattle.std.proofs.Common.{◌∙◌, sym, ap}
 use Rattle.std.specs.Cmp.Lexicographic.{texts_ties}
 use Rattle.nb_cells.specs.Cells.{CellMap, set_at, with_change, changed, AreAlike}

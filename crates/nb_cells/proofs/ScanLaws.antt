@@ -1,6 +1,6 @@
 -- The cells of one space of a table are those that its map has there.
-use Rattle.std.specs.Prelude.{◌≡◌, ℕ, List, [], ◌∷◌, map, filter, length, All, Contains, Bool, true, false, cond, ◌&&◌, ◌==◌, Option, Some, None, unwrap_or, T, refl}
-use Rattle.std.proofs.Common.{◌∙◌, sym, ap, subst, true≢false, eqb-true, eq-eqb, arith}
+use Rattle.std.specs.Prelude.{◌≡◌, ℕ, List, [], ◌∷◌, map, filter, All, Contains, Bool, true, false, cond, ◌&&◌, ◌==◌, Some, unwrap_or, T, refl}
+use Rattle.std.proofs.Common.{◌∙◌, sym, ap, subst, eqb-true, eq-eqb, arith}
 use Rattle.std.specs.declared.cmp.Ordering.{Ordering}
 use Rattle.std.specs.declared.cmp.Ordering.TheVariants.{Less, Equal, Greater}
 use Rattle.std.specs.List.{AllByRecursion}

@@ -1,11 +1,11 @@
 -- The cells of a table as lists.
-use Rattle.std.specs.Prelude.{◌≡◌, ℕ, List, [], ◌∷◌, map, filter, Bool, true, false, cond, ◌&&◌, ◌==◌, Option, Some, None, option_map, T, ◌++◌, refl}
-use Rattle.std.proofs.Common.{◌∙◌, sym, ap, subst, true≢false}
+use Rattle.std.specs.Prelude.{◌≡◌, ℕ, List, [], ◌∷◌, map, filter, true, false, cond, ◌==◌, Option, Some, None, option_map, T, ◌++◌, refl}
+use Rattle.std.proofs.Common.{◌∙◌, sym, ap, subst}
 use Rattle.std.specs.declared.cmp.Ordering.TheVariants.{Less, Equal}
 use Rattle.std.specs.List.{filter_map, cons_option, AllByRecursion}
 use Rattle.std.specs.List.Sorted.{IsStrictlySortedBy}
 use Rattle.std.specs.Option.{option_flatten, option_to_list}
-use Rattle.std.specs.Ordering.{eq_by_cmp, is_eq, is_lt}
+use Rattle.std.specs.Ordering.{is_eq}
 use Rattle.std.specs.Cmp.{Equal-is}
 use Rattle.std.proofs.lemmas.List.Elements.{filter_map-append}
 use Rattle.std.specs.Map.{keys_of, lookup}
@@ -13,9 +13,8 @@ use Rattle.std.specs.BTreeMap.{is_at}
 use Rattle.std.specs.FinMap as finite
 use Rattle.std.specs.FinMap.Entries.{below_all}
 use Rattle.nb_cells.specs.Place.{place_cmp}
-use Rattle.nb_cells.specs.Table.{ByPlace, cell_of, cells_of, listed}
-use Rattle.nb_cells.specs.Slots.{shown, is_asked, cell_in}
-use Rattle.nb_cells.specs.declared.cell.Cell.{Cell}
+use Rattle.nb_cells.specs.Table.{cell_of, listed}
+use Rattle.nb_cells.specs.Slots.{shown, cell_in}
 use Rattle.nb_cells.specs.declared.place.Place.{Place}
 use Rattle.nb_cells.proofs.SlotLaws.{place_total, get-shown, same_table}
 

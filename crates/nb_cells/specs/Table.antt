@@ -1,5 +1,5 @@
 -- Cells in the order of their places, and what changes make of them.
-use Rattle.std.specs.Prelude.{◌≡◌, ℕ, List, map, fold, filter, ◌==◌, Option, Some, None, refl}
+use Rattle.std.specs.Prelude.{ℕ, List, map, fold, filter, ◌==◌, Option, Some, None, refl}
 use Rattle.std.specs.Coded.{Coded, code_by, coded×, coded_ℕ, coded_list}
 use Rattle.std.specs.FinMap as finite
 use Rattle.nb_cells.specs.Cells.{CellMap}

@@ -1,4 +1,4 @@
-use Rattle.std.proofs.Common.{◌∙◌, sym, ap}
+use Rattle.std.proofs.Common.{◌∙◌, ap}
 use Rattle.nb_cells.specs.Mem.{left, next_read, next_apply}
 use Rattle.nb_cells.specs.Table.{told}
 use Rattle.nb_cells.proofs.MemLaws.{ok_told, ok_left, failed_told, failed_left, no_memory_same, read_told, read_left, if_scans, on_ok}
