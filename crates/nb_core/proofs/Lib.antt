@@ -2,12 +2,15 @@ pub mod Appending
 pub mod Bridge
 pub mod ByIds
 pub mod Committing
+pub mod Copies
 pub mod Firsts
 pub mod Frees
 pub mod Held
 pub mod Ids
 pub mod Joining
 pub mod Looking
+pub mod Placing
+pub mod Sending
 pub mod Serials
 pub mod Stales
 pub mod Writing

@@ -2,6 +2,8 @@ pub mod After
 pub mod History
 pub mod Legal
 pub mod Once
+pub mod Placed
+pub mod Sent
 pub mod Serve
 pub mod Stale
 pub mod State

@@ -12,6 +12,8 @@ ghost use Rattle.nb_core.specs.History.{History, Run, opened, commits, batches};
 ghost use Rattle.nb_core.specs.Legal.{Legal, joined};
 ghost use Rattle.nb_core.specs.Once.{Once};
 ghost use Rattle.nb_base.specs.Meanings.{IsMeaning};
+ghost use Rattle.nb_core.specs.Placed.{Placed};
+ghost use Rattle.nb_core.specs.Sent.{Sent};
 ghost use Rattle.nb_core.specs.Serve.{Serial};
 ghost use Rattle.nb_core.specs.State.{Constants, State, base};
 ghost use Rattle.nb_core.specs.Step.{Event, Halt, Step};
@@ -31,6 +33,16 @@ pub fn law_serial()
 /// Between two commits of one id there is a purge of it, no earlier than the retention after the first.
 pub fn law_once()
     ensures { (c : Constants) (h : History) (s : State) → (legal : Legal c h s) → Once legal.run }
+{}
+
+/// Whatever stood in the own queue, delayed or not, is there, was handled or given up, or is in error.
+pub fn law_placed()
+    ensures { (c : Constants) (h : History) (s : State) → (legal : Legal c h s) → Placed legal.run }
+{}
+
+/// What is sent is what was recorded, and all of it before the record is marked.
+pub fn law_sent()
+    ensures { (c : Constants) (h : History) (s : State) → (legal : Legal c h s) → Sent legal.run }
 {}
 
 /// Two legal histories, of which the second opens with the tables and the post in which the first ends, are one.
