@@ -3,6 +3,8 @@ pub mod Bridge
 pub mod ByIds
 pub mod Committing
 pub mod Copies
+pub mod Deciding
+pub mod Earning
 pub mod Firsts
 pub mod Frees
 pub mod Held

@@ -1,4 +1,5 @@
 pub mod After
+pub mod Earned
 pub mod History
 pub mod Legal
 pub mod Once

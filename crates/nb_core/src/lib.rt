@@ -12,6 +12,7 @@ ghost use Rattle.nb_core.specs.History.{History, Run, opened, commits, batches};
 ghost use Rattle.nb_core.specs.Legal.{Legal, joined};
 ghost use Rattle.nb_core.specs.Once.{Once};
 ghost use Rattle.nb_base.specs.Meanings.{IsMeaning};
+ghost use Rattle.nb_core.specs.Earned.{Earned};
 ghost use Rattle.nb_core.specs.Placed.{Placed};
 ghost use Rattle.nb_core.specs.Sent.{Sent};
 ghost use Rattle.nb_core.specs.Serve.{Serial};
@@ -38,6 +39,12 @@ pub fn law_once()
 /// Whatever stood in the own queue, delayed or not, is there, was handled or given up, or is in error.
 pub fn law_placed()
     ensures { (c : Constants) (h : History) (s : State) → (legal : Legal c h s) → Placed legal.run }
+{}
+
+/// A message goes to the error queue only after every configured attempt failed, by an unrecoverable fault, or by a
+/// policy.
+pub fn law_earned()
+    ensures { (c : Constants) (h : History) (s : State) → (legal : Legal c h s) → Earned legal.run }
 {}
 
 /// What is sent is what was recorded, and all of it before the record is marked.
