@@ -15,4 +15,5 @@ pub mod Placing
 pub mod Sending
 pub mod Serials
 pub mod Stales
+pub mod Waiting
 pub mod Writing

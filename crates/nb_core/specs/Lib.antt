@@ -3,6 +3,7 @@ pub mod Earned
 pub mod History
 pub mod Legal
 pub mod Once
+pub mod Pending
 pub mod Placed
 pub mod Sent
 pub mod Serve

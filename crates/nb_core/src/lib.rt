@@ -13,6 +13,7 @@ ghost use Rattle.nb_core.specs.Legal.{Legal, joined};
 ghost use Rattle.nb_core.specs.Once.{Once};
 ghost use Rattle.nb_base.specs.Meanings.{IsMeaning};
 ghost use Rattle.nb_core.specs.Earned.{Earned};
+ghost use Rattle.nb_core.specs.Pending.{Pending};
 ghost use Rattle.nb_core.specs.Placed.{Placed};
 ghost use Rattle.nb_core.specs.Sent.{Sent};
 ghost use Rattle.nb_core.specs.Serve.{Serial};
@@ -50,6 +51,11 @@ pub fn law_earned()
 /// What is sent is what was recorded, and all of it before the record is marked.
 pub fn law_sent()
     ensures { (c : Constants) (h : History) (s : State) → (legal : Legal c h s) → Sent legal.run }
+{}
+
+/// While a record isn't sent, the entries that lead to its sending stay.
+pub fn law_pending()
+    ensures { (c : Constants) (h : History) (s : State) → (legal : Legal c h s) → Pending legal.run }
 {}
 
 /// Two legal histories, of which the second opens with the tables and the post in which the first ends, are one.
