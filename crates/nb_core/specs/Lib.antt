@@ -1,8 +1,11 @@
 pub mod After
+pub mod Calls
+pub mod Drained
 pub mod Earned
 pub mod History
 pub mod Legal
 pub mod Once
+pub mod Past
 pub mod Pending
 pub mod Placed
 pub mod Sent

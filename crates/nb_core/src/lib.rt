@@ -1,6 +1,9 @@
 //! The core: the states of an endpoint, the events that lead from one to the next, and their histories.
 #![tactic(auto)]
 
+mod answers;
+mod call;
+mod desk;
 mod event;
 mod history;
 mod phase;
@@ -20,6 +23,9 @@ ghost use Rattle.nb_core.specs.Serve.{Serial};
 ghost use Rattle.nb_core.specs.State.{Constants, State, base};
 ghost use Rattle.nb_core.specs.Step.{Event, Halt, Step};
 
+pub use answers::{DeskFault, Look, Settled, Taken};
+pub use call::{Answer, Call};
+pub use desk::{Desk, make};
 pub use event::{Event, Events};
 pub use history::{History, Opening};
 pub use phase::Phase;
