@@ -1,8 +1,10 @@
 pub mod Appending
+pub mod Batches
 pub mod Bridge
 pub mod ByIds
 pub mod Committing
 pub mod Copies
+pub mod Counting
 pub mod Deciding
 pub mod Earning
 pub mod Firsts
@@ -14,6 +16,8 @@ pub mod Looking
 pub mod Placing
 pub mod Sending
 pub mod Serials
+pub mod Sounding
 pub mod Stales
+pub mod Stating
 pub mod Waiting
 pub mod Writing

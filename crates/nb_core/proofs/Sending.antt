@@ -264,7 +264,7 @@ pub sent_from : {c : Constants} {s s' : State} {es : List Event} (t : Told) (run
 sent_from t ends h = tt
 sent_from t (goes step rest) h = (sent_right t step h, sent_from (told_after t step) rest (telling_kept t step h))
 
-at_first : (s : State) → ((w : ℕ) → phase_in s.phases w ≡ Idle) → TellingAt (told_at_first s) s
+pub at_first : (s : State) → ((w : ℕ) → phase_in s.phases w ≡ Idle) → TellingAt (told_at_first s) s
 at_first s idle = record {
   pending = λ id r there no. sym (ap ops_in there);
   sending = λ w n id ops k e. absurd (let x : Idle ≡ Sending n id ops k = sym (idle w) ∙ e in cc);

@@ -2,6 +2,7 @@ pub mod After
 pub mod Calls
 pub mod Drained
 pub mod Earned
+pub mod Facts
 pub mod History
 pub mod Legal
 pub mod Once

@@ -16,6 +16,7 @@ ghost use Rattle.nb_core.specs.Legal.{Legal, joined};
 ghost use Rattle.nb_core.specs.Once.{Once};
 ghost use Rattle.nb_base.specs.Meanings.{IsMeaning};
 ghost use Rattle.nb_core.specs.Earned.{Earned};
+ghost use Rattle.nb_core.specs.Facts.{StateFacts};
 ghost use Rattle.nb_core.specs.Pending.{Pending};
 ghost use Rattle.nb_core.specs.Placed.{Placed};
 ghost use Rattle.nb_core.specs.Sent.{Sent};
@@ -62,6 +63,11 @@ pub fn law_sent()
 /// While a record isn't sent, the entries that lead to its sending stay.
 pub fn law_pending()
     ensures { (c : Constants) (h : History) (s : State) → (legal : Legal c h s) → Pending legal.run }
+{}
+
+/// What each state of a legal history keeps: sound stores, and what the phases say.
+pub fn law_state()
+    ensures { (c : Constants) (h : History) (s : State) → IsMeaning c.meaning → Legal c h s → StateFacts c s }
 {}
 
 /// Two legal histories, of which the second opens with the tables and the post in which the first ends, are one.
