@@ -13,6 +13,7 @@ pub mod Held
 pub mod Ids
 pub mod Joining
 pub mod Looking
+pub mod Naming
 pub mod Placing
 pub mod Sending
 pub mod Serials

@@ -4,6 +4,7 @@ pub mod Drained
 pub mod Earned
 pub mod Facts
 pub mod History
+pub mod Ids
 pub mod Legal
 pub mod Once
 pub mod Past

@@ -12,6 +12,7 @@ mod state;
 ghost use Rattle.std.specs.Prelude.{◌≡◌, List, [], ◌∷◌, ◌++◌};
 ghost use Rattle.nb_core.specs.After.{after, run};
 ghost use Rattle.nb_core.specs.History.{History, Run, opened, commits, batches};
+ghost use Rattle.nb_core.specs.Ids.{Ids};
 ghost use Rattle.nb_core.specs.Legal.{Legal, joined};
 ghost use Rattle.nb_core.specs.Once.{Once};
 ghost use Rattle.nb_base.specs.Meanings.{IsMeaning};
@@ -63,6 +64,11 @@ pub fn law_sent()
 /// While a record isn't sent, the entries that lead to its sending stay.
 pub fn law_pending()
     ensures { (c : Constants) (h : History) (s : State) → (legal : Legal c h s) → Pending legal.run }
+{}
+
+/// No id is given to two messages or to two sagas, and no saga gets one that a saga had at the opening.
+pub fn law_ids()
+    ensures { (c : Constants) (h : History) (s : State) → IsMeaning c.meaning → (legal : Legal c h s) → Ids legal.run }
 {}
 
 /// What each state of a legal history keeps: sound stores, and what the phases say.
