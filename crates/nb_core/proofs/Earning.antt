@@ -26,6 +26,7 @@ use Rattle.nb_core.specs.History.{Run, ends, goes}
 use Rattle.nb_core.specs.Stale.{conflict_on}
 use Rattle.nb_core.specs.State.{put_phase, State, Constants, Phase, Idle, Held, Looked, Sending, Leaving, Done, phase, phase_in, number_of, phase_by, phase_after, fails_in, move_after, base}
 use Rattle.nb_core.specs.Step.{Event, Step, load, take, look_known, look_new, settle_twin, settle_fault, settle_conflict, settle_commit, send, mark, aside, remove, tick, release, purge, put_back, drop_back, stop, halt}
+use Rattle.nb_core.specs.RunFacts.{traced_at_end}
 
 some_same : {A : Type 0} {x y : A} → Some x ≡ Some y → x ≡ y
 some_same e = cc
@@ -37,7 +38,7 @@ at_below : {A : Type 0} (f : ℕ → A) (k : ℕ) (v : A) (q : ℕ) → q < k �
 at_below f k v q lt = ap (λ b. cond b v (f q)) (ne_eqb q k (λ e. omega arith))
 
 -- entries below a number whose ancestors failed, one round before each
-data Ancestry (c : Constants) (t : Traced) (end : ℕ) : ℕ → Type 0 where
+pub data Ancestry (c : Constants) (t : Traced) (end : ℕ) : ℕ → Type 0 where
   first : {n : ℕ} → n < end → t.parent n ≡ None → Ancestry c t end n
   later : {n p : ℕ} → n < end → t.parent n ≡ Some p → t.round n ≡ t.round p + 1 → c.settings.immediate + 1 ≤ attempts_on t.attempts p → Ancestry c t end p → Ancestry c t end n
 
@@ -107,14 +108,14 @@ left_goes settings xs es n queue due copy l = go l.x.move l.gave (sym l.decided)
         let q : queue ≡ settings.error = cc in
         for_error q l.count l.enough (error_is settings l.count (round_of l.x.envelope) (name_of l.x.fail) (is_unrecoverable l.x.fail) decided)
 
-record Earning (c : Constants) (t : Traced) (ps : ByNumber Phase) (es : ByNumber Queued) (fs : ByNumber ℕ) (end : ℕ) : Type 0 where
-  left : (w : ℕ) → Left c.settings t.attempts es (phase_in ps w)
-  ancestors : (n : ℕ) (e : Queued) → map.get es n ≡ Some e → e.queue ≡ c.settings.endpoint → Ancestry c t end n
-  rounds : (n : ℕ) (e : Queued) → map.get es n ≡ Some e → t.round n ≡ (round_of e.envelope)
-  counts : (n : ℕ) → fails_in fs n ≤ attempts_on t.attempts n
-  parents : (n : ℕ) → end ≤ n → t.parent n ≡ None
+pub record Earning (c : Constants) (t : Traced) (ps : ByNumber Phase) (es : ByNumber Queued) (fs : ByNumber ℕ) (end : ℕ) : Type 0 where
+  pub left : (w : ℕ) → Left c.settings t.attempts es (phase_in ps w)
+  pub ancestors : (n : ℕ) (e : Queued) → map.get es n ≡ Some e → e.queue ≡ c.settings.endpoint → Ancestry c t end n
+  pub rounds : (n : ℕ) (e : Queued) → map.get es n ≡ Some e → t.round n ≡ (round_of e.envelope)
+  pub counts : (n : ℕ) → fails_in fs n ≤ attempts_on t.attempts n
+  pub parents : (n : ℕ) → end ≤ n → t.parent n ≡ None
 
-abbrev EarningAt : Constants → Traced → State → Type 0
+abbrev pub EarningAt : Constants → Traced → State → Type 0
 EarningAt c t s = Earning c t s.phases s.post.entries s.fails s.post.next
 
 counted : (a : Attempt) (xs : List Attempt) → attempts_on (a ∷ xs) a.number ≡ attempts_on xs a.number + 1
@@ -289,7 +290,7 @@ module _ (c : Constants) where
     parents = h.parents;
   }
 
-earning_kept : {c : Constants} {s s' : State} {e : Event} (t : Traced) (step : Step c s e s') → c.settings.error ≢ c.settings.endpoint → BelowAt s → HoldingAt c s → EarningAt c t s → EarningAt c (traced_after t step) s'
+pub earning_kept : {c : Constants} {s s' : State} {e : Event} (t : Traced) (step : Step c s e s') → c.settings.error ≢ c.settings.endpoint → BelowAt s → HoldingAt c s → EarningAt c t s → EarningAt c (traced_after t step) s'
 earning_kept {c = c} {s = s} t (load {m = m} named room) a b i h = new_orphan c t s.phases s.post.entries s.fails s.post.next (record { queue = c.settings.endpoint; due = None; envelope = m }) b i h
 earning_kept {c = c} {s = s} t (take {w = w} {n = n} idle l) a b i h = phase_change c t s.phases s.post.entries s.fails s.post.next w (Held n) tt h
 earning_kept {c = c} {s = s} t (look_known {w = w} {n = n} {e = e} {r = r} held there known) a b i h =
@@ -404,12 +405,26 @@ earned_from t ends a b i h = tt
 earned_from t (goes step rest) a b i h =
     (earned_now t step a i h, earned_from (traced_after t step) rest a (below_kept step b) (holding_kept step b i) (earning_kept t step a b i h))
 
-pub earned : {c : Constants} {s s' : State} {es : List Event} (run : Run c s es s') → c.settings.error ≢ c.settings.endpoint → BelowAt s → HoldingAt c s
-    → ((w : ℕ) → phase_in s.phases w ≡ Idle) → ((n : ℕ) → map.get s.fails n ≡ None) → Earned run
-earned {c = c} {s = s} run a b i idle none = earned_from (traced_at_first s) run a b i (record {
+pub earning_at_first : (c : Constants) (s : State) → BelowAt s → ((w : ℕ) → phase_in s.phases w ≡ Idle) → ((n : ℕ) → map.get s.fails n ≡ None) → EarningAt c (traced_at_first s) s
+earning_at_first c s b idle none = record {
   left = λ w. left_idle c.settings [] s.post.entries (phase s w) (idle w);
   ancestors = λ n e there own. first (b.below n e there) refl;
   rounds = λ n e there. ap round_at there;
   counts = λ n. subst (λ o. unwrap_or o 0 ≤ 0) (sym (none n)) (omega arith);
   parents = λ n l. refl;
-})
+}
+
+pub earned : {c : Constants} {s s' : State} {es : List Event} (run : Run c s es s') → c.settings.error ≢ c.settings.endpoint → BelowAt s → HoldingAt c s
+    → ((w : ℕ) → phase_in s.phases w ≡ Idle) → ((n : ℕ) → map.get s.fails n ≡ None) → Earned run
+earned {c = c} {s = s} run a b i idle none = earned_from (traced_at_first s) run a b i (earning_at_first c s b idle none)
+
+pub earning_at_end : {c : Constants} {s s' : State} {es : List Event} (t : Traced) (run : Run c s es s') → c.settings.error ≢ c.settings.endpoint → BelowAt s → HoldingAt c s → EarningAt c t s → EarningAt c (traced_at_end t run) s'
+earning_at_end t ends a b i h = h
+earning_at_end t (goes step rest) a b i h = earning_at_end (traced_after t step) rest a (below_kept step b) (holding_kept step b i) (earning_kept t step a b i h)
+
+-- the parent of an entry of the own queue failed in each attempt, one round before it
+pub parent_failed : {c : Constants} {t : Traced} {end n p : ℕ} → Ancestry c t end n → t.parent n ≡ Some p → (c.settings.immediate + 1 ≤ attempts_on t.attempts p) × (t.round n ≡ t.round p + 1)
+parent_failed (first lt none) is = absurd (let z = sym none ∙ is in cc)
+parent_failed {c = c} {t = t} {n = n} {p = p} (later {p = q} lt so round failed rest) is =
+    let same : q ≡ p = some_same (sym so ∙ is) in
+    (subst (λ z. c.settings.immediate + 1 ≤ attempts_on t.attempts z) same failed, round ∙ ap (λ z. t.round z + 1) same)

@@ -7,6 +7,7 @@ pub mod Copies
 pub mod Counting
 pub mod Deciding
 pub mod Earning
+pub mod Facing
 pub mod Firsts
 pub mod Frees
 pub mod Held
@@ -15,6 +16,8 @@ pub mod Joining
 pub mod Looking
 pub mod Naming
 pub mod Placing
+pub mod Putting
+pub mod Recounting
 pub mod Sending
 pub mod Serials
 pub mod Sounding

@@ -21,22 +21,18 @@ use Rattle.nb_core.specs.Placed.{InOwn, InError, IsInOwn, WasInOwn, IsRecorded, 
 use Rattle.nb_core.specs.Serve.{HandledAt}
 use Rattle.nb_core.specs.State.{put_phase, State, Constants, Phase, Idle, Held, Looked, Sending, Leaving, Done, phase, phase_in, number_of, phase_by, phase_after, commit_record, IsReady, given_up, after_delay}
 use Rattle.nb_core.specs.Step.{Event, Step, load, take, look_known, look_new, settle_twin, settle_fault, settle_conflict, settle_commit, send, mark, aside, remove, tick, release, purge, put_back, drop_back, stop, halt}
+use Rattle.nb_core.specs.RunFacts.{IsAsideOf, IsPutAside}
 
 -- what is marked in a history: an id that was committed, recorded at the opening or given up, and an entry that an Aside put
 pub data Mark : Type 0 where
   settled : List ℕ → Mark
   put_aside : ℕ → Mark
 
--- the entry that a step puts aside
-abbrev pub IsAsideOf : {c : Constants} {s s' : State} {e : Event} → ℕ → Step c s e s' → Type 0
-IsAsideOf {s = s} n (aside leaving room) = n ≡ s.post.next
-IsAsideOf n _ = ⊥
-
 some_same : {A : Type 0} {x y : A} → Some x ≡ Some y → x ≡ y
 some_same e = cc
 
 -- the copy is due here later, or is for the error queue and names this endpoint
-pub IsCopy : Settings → List ℕ → Option ℕ → Message → Type 0
+unfoldable pub IsCopy : Settings → List ℕ → Option ℕ → Message → Type 0
 IsCopy settings queue due copy =
     ((queue ≡ settings.endpoint) × ((d : ℕ) × (due ≡ Some d))) ⊎ ((queue ≡ settings.error) × (due ≡ None) × ((failed_queue copy) ≡ settings.endpoint))
 
@@ -113,7 +109,7 @@ module _ (settings : Settings) where
       record { number = h.number; it = h.it; there = put_same es next e b h.number h.it h.there ∙ h.there; copy = h.copy; aside = h.aside; kept = h.kept; id_is = h.id_is }
 
   -- a ready entry is no copy
-  ready_no_copy : settings.error ≢ settings.endpoint → (e : Queued) → IsReady settings e → IsCopy settings e.queue e.due e.envelope → ⊥
+  pub ready_no_copy : settings.error ≢ settings.endpoint → (e : Queued) → IsReady settings e → IsCopy settings e.queue e.due e.envelope → ⊥
   unfolding IsCopy
   ready_no_copy apart e r h =
       ⊎_elim
@@ -494,6 +490,14 @@ settled_is K (goes first rest) id k = ⊎_elim
     (λ (z : IsDiscarded id (discards rest)). inr (given_right id (discard_by first) (discards rest) z))
     x))
     (settled_is (Later_marks K first) rest id k)
+
+-- and an entry that is marked as put aside was so by the run
+pub aside_is : {c : Constants} {s s' : State} {es : List Event} (K : Mark → Type 0) (run : Run c s es s') (n : ℕ) → Marks_at_end K run (put_aside n) → K (put_aside n) ⊎ IsPutAside n run
+aside_is K ends n k = inl k
+aside_is K (goes first rest) n k = ⊎_elim
+    (λ (x : K (put_aside n) ⊎ IsAsideOf n first). ⊎_elim (λ (y : K (put_aside n)). inl y) (λ (y : IsAsideOf n first). inr (inl y)) x)
+    (λ (x : IsPutAside n rest). inr (inr x))
+    (aside_is (Later_marks K first) rest n k)
 
 -- at first the recorded ids are marked
 abbrev pub First_marks : State → Mark → Type 0

@@ -20,6 +20,7 @@ use Rattle.nb_recover.specs.declared.fail.Fail.{Fail}
 use Rattle.nb_recover.specs.declared.moves.Move.{Move}
 use Rattle.nb_recover.specs.declared.moves.Move.TheVariants as move
 use Rattle.std.specs.FinMap as map
+use Rattle.nb_core.specs.RunFacts.{since_at_end}
 
 some_same : {A : Type 0} {x y : A} → Some x ≡ Some y → x ≡ y
 some_same e = cc
@@ -257,7 +258,7 @@ waiting_kept {c = c} {s = s} t stop a b i p h = record {
 }
 waiting_kept t halt a b i p h = h
 
-forget : (c : Constants) (K : Mark → Type 0) (s : State) → PlacingAt c K s → PlacingAt c (λ (k : Mark). Unit {0}) s
+pub forget : (c : Constants) (K : Mark → Type 0) (s : State) → PlacingAt c K s → PlacingAt c (λ (k : Mark). Unit {0}) s
 forget c K s p = more_marks c.settings K (λ (k : Mark). Unit {0}) s.tables.outbox s.tables.outbox s.phases s.post.entries s.back (λ k x. tt) (λ id r e. tt) p
 
 pending_from : {c : Constants} {s s' : State} {es : List Event} (t : Since) (run : Run c s es s') → c.settings.error ≢ c.settings.endpoint → BelowAt s → HoldingAt c s → PlacingAt c (λ (k : Mark). Unit {0}) s → WaitingAt c t s
@@ -266,10 +267,11 @@ pending_from t ends a b i p h = h.stay
 pending_from {c = c} t (goes {mid = mid} step rest) a b i p h =
     (h.stay, pending_from (since_after t step) rest a (below_kept step b) (holding_kept step b i) (forget c _ mid (placing_kept (λ (k : Mark). Unit {0}) step b i p)) (waiting_kept t step a b i p h))
 
--- what was so at the end of a run
-pub since_at_end : {c : Constants} {s s' : State} {es : List Event} → Since → Run c s es s' → Since
-since_at_end t ends = t
-since_at_end t (goes step rest) = since_at_end (since_after t step) rest
+pub waiting_at_end : {c : Constants} {s s' : State} {es : List Event} (t : Since) (run : Run c s es s') → c.settings.error ≢ c.settings.endpoint → BelowAt s → HoldingAt c s → PlacingAt c (λ (k : Mark). Unit {0}) s → WaitingAt c t s
+    → WaitingAt c (since_at_end t run) s'
+waiting_at_end t ends a b i p h = h
+waiting_at_end {c = c} t (goes {mid = mid} step rest) a b i p h =
+    waiting_at_end (since_after t step) rest a (below_kept step b) (holding_kept step b i) (forget c _ mid (placing_kept (λ (k : Mark). Unit {0}) step b i p)) (waiting_kept t step a b i p h)
 
 pub waiting_at_first : (c : Constants) (s : State) → ((w : ℕ) → phase_in s.phases w ≡ Idle) → WaitingAt c (since_first s) s
 waiting_at_first c s idle = record {

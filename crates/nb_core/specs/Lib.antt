@@ -10,6 +10,7 @@ pub mod Once
 pub mod Past
 pub mod Pending
 pub mod Placed
+pub mod RunFacts
 pub mod Sent
 pub mod Serve
 pub mod Stale

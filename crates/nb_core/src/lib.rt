@@ -20,6 +20,7 @@ ghost use Rattle.nb_core.specs.Earned.{Earned};
 ghost use Rattle.nb_core.specs.Facts.{StateFacts};
 ghost use Rattle.nb_core.specs.Pending.{Pending};
 ghost use Rattle.nb_core.specs.Placed.{Placed};
+ghost use Rattle.nb_core.specs.RunFacts.{Facts};
 ghost use Rattle.nb_core.specs.Sent.{Sent};
 ghost use Rattle.nb_core.specs.Serve.{Serial};
 ghost use Rattle.nb_core.specs.State.{Constants, State, base};
@@ -64,6 +65,11 @@ pub fn law_sent()
 /// While a record isn't sent, the entries that lead to its sending stay.
 pub fn law_pending()
     ensures { (c : Constants) (h : History) (s : State) → (legal : Legal c h s) → Pending legal.run }
+{}
+
+/// What holds at the end of a legal history of what came before: what each phase says of its entry, and each count.
+pub fn law_facts()
+    ensures { (c : Constants) (h : History) (s : State) → IsMeaning c.meaning → (legal : Legal c h s) → Facts legal.run }
 {}
 
 /// No id is given to two messages or to two sagas, and no saga gets one that a saga had at the opening.
