@@ -7,12 +7,13 @@ use Rattle.nb_base.specs.Orders.{ByNumber}
 use Rattle.nb_base.specs.declared.entry.Op.{Op}
 use Rattle.nb_base.specs.declared.settings.Settings.{Settings}
 use Rattle.nb_base.specs.declared.tables.Queued.{Queued}
-use Rattle.nb_core.specs.State.{put_phase, State, Constants, Phase, Idle, Held, Looked, Sending, Leaving, Done, phase_in, number_of, IsReady, phase_by, phase_after}
+use Rattle.nb_core.specs.State.{put_phase, State, Constants, Phase, Idle, Held, Looked, Sending, Leaving, Done, phase_in, number_of, phase_by, phase_after}
 use Rattle.nb_core.specs.Step.{Event, Step, load, take, look_known, look_new, settle_twin, settle_fault, settle_conflict, settle_commit, send, mark, aside, remove, tick, release, purge, put_back, drop_back, stop, halt}
 use Rattle.nb_recover.specs.declared.fail.Fail.{Fail}
 use Rattle.nb_recover.specs.declared.moves.Move.{Move}
 use Rattle.nb_recover.specs.declared.moves.Move.TheVariants as move
 use Rattle.std.specs.FinMap as map
+pub use Rattle.nb_core.specs.Facts.{Stands, Holding}
 
 -- the phase of a worker after a change
 inserted_same : (ps : ByNumber Phase) (w : ℕ) (p : Phase) → phase_in (map.insert ps w p) w ≡ p
@@ -53,16 +54,6 @@ each_phase P ps w p others mine v =
 
 abbrev pub named : ByNumber Phase → ℕ → Option ℕ
 named ps w = number_of (phase_in ps w)
-
--- an entry that stands in the own queue
-pub record Stands (settings : Settings) (es : ByNumber Queued) (n : ℕ) : Type 0 where
-  pub it : Queued
-  pub there : map.get es n ≡ Some it
-  pub ready : IsReady settings it
-
-pub record Holding (settings : Settings) (ps : ByNumber Phase) (es : ByNumber Queued) : Type 0 where
-  pub stands : (w n : ℕ) → named ps w ≡ Some n → Stands settings es n
-  pub apart : (v w n : ℕ) → named ps v ≡ Some n → named ps w ≡ Some n → v ≡ w
 
 pub record IsBelow (es : ByNumber Queued) (next : ℕ) : Type 0 where
   pub below : (n : ℕ) (e : Queued) → map.get es n ≡ Some e → n < next

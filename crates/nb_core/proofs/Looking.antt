@@ -16,7 +16,7 @@ use Rattle.nb_base.specs.declared.saga_key.SagaKey.{SagaKey}
 use Rattle.nb_base.specs.declared.saga_row.Read.{Read}
 use Rattle.nb_base.specs.declared.saga_row.SagaRow.{SagaRow}
 use Rattle.nb_base.specs.declared.saga_row.Seen.{Seen}
-use Rattle.nb_base.specs.declared.saga_row.Seen.TheVariants.{Absent, Saga, Row as RowSeen}
+use Rattle.nb_base.specs.declared.saga_row.Seen.TheVariants.{Saga, Row as RowSeen}
 use Rattle.nb_base.specs.declared.tables.Queued.{Queued}
 use Rattle.nb_base.specs.declared.tables.Row.{Row}
 use Rattle.nb_base.specs.declared.value.Key.{Key}
@@ -34,12 +34,7 @@ use Rattle.nb_core.proofs.Writing.{Wrote, saga_after, row_after, wrote_version, 
 use Rattle.nb_core.specs.Serve.{after_plan}
 use Rattle.nb_core.specs.State.{State, Constants, Phase, Idle, Held, Looked, Sending, Leaving, Done, phase, phase_in, put_phase, number_of, phase_by, phase_after, base, fails, failed, move_after, commit_ops, entry}
 use Rattle.nb_core.specs.Step.{Event, Step, load, take, look_known, look_new, settle_twin, settle_fault, settle_conflict, settle_commit, send, mark, aside, remove, tick, release, purge, put_back, drop_back, stop, halt}
-
--- a read fits: it is of a commit so far, and it is what is shown now where the versions agree
-pub record Fits (t : Stored) (r : Read) : Type 0 where
-  pub past : version_of r.seen ≤ t.commits
-  pub absent : version_of r.seen ≡ 0 → r.seen ≡ Absent
-  pub same : version_of r.seen ≡ version_of (shown t r.key) → r.seen ≡ shown t r.key
+pub use Rattle.nb_core.specs.Facts.{Fits, ReadWell}
 
 -- a saga or a row of the tables has a version from 1 on
 saga_version : (t : Stored) → IsSoundStored t → (p : SagaKey) (r : SagaRow) → maps.get t.sagas p ≡ Some r → (1 ≤ r.version) × (r.version ≤ t.commits)
@@ -136,17 +131,6 @@ fresh_is_now t (r ∷ rs) f g =
     let one : r.seen ≡ shown t r.key = f.0.same g.0 in
     let rest = fresh_is_now t rs f.1 g.1 in
     λ i. record { key = r.key; seen = one i } ∷ rest i
-
--- ---- what a phase says of what its worker read for the entry that it names
-
-abbrev pub ReadWell : Constants → Stored → ByNumber Queued → Phase → Type 0
-ReadWell c t es Idle = Unit {0}
-ReadWell c t es (Held n) = Unit {0}
-ReadWell c t es (Looked n reads) =
-    (e : Queued) × (maps.get es n ≡ Some e) × (map (λ (r : Read). r.key) reads ≡ c.meaning.keys e.envelope) × AllByRecursion (Fits t) reads
-ReadWell c t es (Sending n id ops k) = Unit {0}
-ReadWell c t es (Leaving n queue due copy) = Unit {0}
-ReadWell c t es (Done n) = Unit {0}
 
 abbrev pub LookingAt : Constants → State → Type 0
 LookingAt c s = (w : ℕ) → ReadWell c (base s) s.post.entries (phase s w)

@@ -1,7 +1,17 @@
 pub mod After
+pub mod Calls
+pub mod Drained
+pub mod Earned
+pub mod Facts
 pub mod History
+pub mod Ids
 pub mod Legal
 pub mod Once
+pub mod Past
+pub mod Pending
+pub mod Placed
+pub mod RunFacts
+pub mod Sent
 pub mod Serve
 pub mod Stale
 pub mod State
