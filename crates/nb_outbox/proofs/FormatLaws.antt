@@ -2,6 +2,7 @@
 use Rattle.std.specs.Prelude.{◌≡◌, ◌≢◌, ◌≤◌, ◌<◌, ◌^◌, ◌==◌, ◌&&◌, ℕ, List, [], ◌∷◌, ◌++◌, length, Bool, true, false, not, cond, nat_lt, Option, Some, None, refl}
 use Rattle.std.proofs.Common.{◌∙◌, ap, sym, subst, arith, append_assoc, true≢false, ltb-true, lt-ltb}
 use Rattle.std.proofs.lemmas.Bool.{eqb-true}
+use Rattle.std.specs.List.{AllByRecursion}
 use Rattle.nb_base.specs.Messages.{Message}
 use Rattle.nb_base.specs.declared.entry.Op.{Op}
 use Rattle.nb_base.specs.declared.entry.OutboxRow.{OutboxRow}
@@ -159,3 +160,11 @@ record_again r rest is = ap record_in (under_format r rest) ∙ content_again r 
 
 pub format_record : IsFormat IsRecord spelled_record record_in
 format_record = record { found = record_found; again = record_again }
+
+-- the queues of a record are named
+pub queues_named : (ops : List Op) → AllByRecursion IsOp ops → AllByRecursion (λ (op : Op). op.queue ≢ []) ops
+queues_named [] all = tt
+queues_named (op ∷ ops) all = (all.0.named, queues_named ops all.1)
+
+pub record_queues : (r : OutboxRow) → IsRecord r → AllByRecursion (λ (op : Op). op.queue ≢ []) r.ops
+record_queues r is = queues_named r.ops is.ops.1

@@ -10,3 +10,6 @@ mod take;
 pub use cell::{is_purgeable, mark_change, outbox_cell};
 pub use laws::law_records;
 pub use read::{OUTBOX, read_outbox};
+
+#[cfg(test)]
+mod tests;
