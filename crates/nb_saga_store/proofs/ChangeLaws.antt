@@ -1,7 +1,8 @@
 -- The changes of writes, one by one.
 use Rattle.std.specs.Prelude.{◌≡◌, ◌≤◌, ℕ, zero, suc, ◌+◌, List, [], ◌∷◌, ◌++◌, map, length, take, slice_get, Some, refl}
-use Rattle.std.proofs.Common.{◌∙◌, ap, sym, subst, add-one}
-use Rattle.std.specs.List.{AllByRecursion}
+use Rattle.std.proofs.Common.{◌∙◌, ap, sym, subst}
+use Rattle.std.specs.List.{AllByRecursion, IsDistinct}
+use Rattle.nb_base.specs.Sound.{HaveDistinctNames}
 use Rattle.std.proofs.lemmas.List.{take_all}
 use Rattle.nb_base.proofs.ListLaws.{take_next}
 use Rattle.nb_base.specs.declared.plan.Write.{Write}
@@ -49,3 +50,7 @@ all_at P (y ∷ ys) zero x all at = subst P (inside y x at) all.0
     inside : {A : Type 0} (a b : A) → Some a ≡ Some b → a ≡ b
     inside a b e = cc
 all_at P (y ∷ ys) (suc i) x all at = all_at P ys i x all.1 at
+
+pub no_fields : HaveDistinctNames []
+unfolding IsDistinct
+no_fields = tt

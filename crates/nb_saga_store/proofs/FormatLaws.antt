@@ -1,22 +1,21 @@
 -- The spelling and the reading of places, sagas and rows.
-use Rattle.std.specs.Prelude.{◌≡◌, ◌≤◌, ◌<◌, ◌^◌, ◌==◌, ℕ, ℤ, List, [], ◌∷◌, ◌++◌, Bool, true, false, cond, nat_lt, Option, Some, None, FitsSigned, refl}
+use Rattle.std.specs.Prelude.{◌≡◌, ◌≤◌, ◌<◌, ◌^◌, ◌==◌, ℕ, ℤ, List, [], ◌∷◌, ◌++◌, Bool, true, false, cond, nat_lt, Option, Some, None, refl}
 use Rattle.std.proofs.Common.{◌∙◌, ap, sym, subst, arith, append_assoc, ltb-true, lt-ltb, lit<, lit≤}
-use Rattle.std.specs.Int.{w64}
 use Rattle.std.proofs.lemmas.Bool.{eqb-true}
-use Rattle.nb_base.specs.Sound.{CanCorrelate, HaveDistinctNames}
+use Rattle.nb_base.specs.Sound.{CanCorrelate}
 use Rattle.nb_base.specs.declared.saga_key.SagaKey.{SagaKey}
 use Rattle.nb_base.specs.declared.saga_row.SagaRow.{SagaRow}
 use Rattle.nb_base.specs.declared.tables.Row.{Row}
 use Rattle.nb_base.specs.declared.value.Field.{Field}
 use Rattle.nb_base.specs.declared.value.Value.{Value}
 use Rattle.nb_base.specs.declared.value.Value.TheVariants as value
-use Rattle.nb_envelope.specs.Spelling.{spelled_u32, spelled_u64, spelled_int, spelled_text, spelled_value, spelled_list, IsText, IsValue, IsList}
+use Rattle.nb_envelope.specs.Spelling.{spelled_u32, spelled_u64, spelled_int, spelled_text, spelled_value, spelled_list, IsList}
 use Rattle.nb_envelope.specs.Cells.{◌>>=◌, u32_in, u64_in, int_in, text_in, value_in, list_in}
-use Rattle.nb_envelope.specs.Formats.{IsBytes, IsFormat, NoneBegins}
-use Rattle.nb_envelope.proofs.FormatLaws.{Found, IsBytes-rest, some_is, bind_some, test_some, none_begins, format_u32, format_u64, format_int, format_text, format_test, format_as, format_both, format_list}
+use Rattle.nb_envelope.specs.Formats.{IsBytes, IsFormat}
+use Rattle.nb_envelope.proofs.FormatLaws.{Found, IsBytes-rest, some_is, bind_some, test_some, format_u32, format_u64, format_int, format_text, format_test, format_as, format_list}
 use Rattle.nb_envelope.proofs.ValueLaws.{format_value}
-use Rattle.nb_saga_store.specs.Spelled.{spelled_place, spelled_field, spelled_revision, spelled_saga, spelled_row, IsPlace, IsField, IsFields, IsRevision, IsSagaRow, IsRow}
-use Rattle.nb_saga_store.specs.Read.{can_correlate, both_in, place_in, field_in, fields_in, have_distinct_names, later_in, revision_in, saga_in, row_in}
+use Rattle.nb_saga_store.specs.Spelled.{spelled_place, spelled_field, spelled_revision, spelled_saga, spelled_row, IsPlace, IsField, IsFields, IsRevision, IsSagaRow, IsRowOf, IsRow}
+use Rattle.nb_saga_store.specs.Read.{can_correlate, place_in, field_in, fields_in, have_distinct_names, later_in, revision_in, saga_in, row_in}
 use Rattle.nb_saga_store.proofs.OnceLaws.{distinct_from, once_from}
 
 -- ---- the same bytes seen as another value
@@ -157,10 +156,6 @@ second corr revision id = u64_in id.1 >>= third corr revision id.0
 
 abbrev first : Value → Step ℕ
 first corr revision = text_in revision.1 >>= second corr revision.0
-
--- the row of the saga with this value
-abbrev pub IsRowOf : Value → SagaRow → Type 0
-IsRowOf corr row = (row.corr ≡ corr) × IsSagaRow row
 
 saga_found : (corr : Value) (bytes : List ℕ) (row : SagaRow) (rest : List ℕ) → IsBytes bytes → saga_in corr bytes ≡ Some (row, rest) → Found (IsRowOf corr) spelled_saga bytes (row, rest)
 unfolding saga_in

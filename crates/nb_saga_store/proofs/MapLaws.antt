@@ -1,14 +1,14 @@
 -- What a write changes in the bytes of a map, and in the cells of sagas and rows.
-use Rattle.std.specs.Prelude.{◌≡◌, ◌≢◌, ℕ, List, [], ◌∷◌, ◌++◌, Bool, true, false, cond, not, ◌==◌, bytes_eq, Option, Some, None, T, refl}
+use Rattle.std.specs.Prelude.{◌≡◌, ◌≢◌, ℕ, List, [], ◌∷◌, ◌++◌, Bool, true, false, cond, not, ◌==◌, bytes_eq, Option, Some, None, refl}
 use Rattle.std.proofs.Common.{◌∙◌, ap, sym, subst, true≢false, Ordering, Less, Equal, Greater}
 use Rattle.std.specs.List.{AllByRecursion}
 use Rattle.std.specs.Ordering.{eq_by_cmp, is_eq}
-use Rattle.std.specs.Cmp.{IsTotalOrder, eq_by_cmp_equiv, Equal-is, tied_itself, alike_right}
+use Rattle.std.specs.Cmp.{eq_by_cmp_equiv, Equal-is, tied_itself, alike_right}
 use Rattle.std.specs.Cmp.Lexicographic.{bytes_decides}
 use Rattle.std.specs.FinMap as finite
 use Rattle.std.specs.FinMap.{FinMap}
 use Rattle.std.specs.FinMap.Entries.{by_order, put, find, where_key, is_sorted-where_key, find-where_key}
-use Rattle.nb_base.proofs.Maps.{IsExact, names, places, ties, itself, apart}
+use Rattle.nb_base.proofs.Maps.{IsExact, names, places, ties}
 use Rattle.nb_base.specs.Shown.{Stored}
 use Rattle.nb_base.specs.declared.plan.Write.{Write}
 use Rattle.nb_base.specs.declared.saga_key.SagaKey.{SagaKey}
@@ -18,7 +18,7 @@ use Rattle.nb_envelope.specs.Spelling.{spelled_text, spelled_value, IsText, IsVa
 use Rattle.nb_envelope.specs.Formats.{NoneBegins}
 use Rattle.nb_envelope.proofs.FormatLaws.{format_text, none_begins}
 use Rattle.nb_envelope.proofs.ValueLaws.{format_value}
-use Rattle.nb_saga_store.specs.Spelled.{spelled_place, spelled_saga, spelled_row, IsPlace}
+use Rattle.nb_saga_store.specs.Spelled.{spelled_place, spelled_saga, spelled_row}
 use Rattle.nb_saga_store.specs.Maps.{spelled_at, HaveStored, AreSpelled, Each, IsSagaAt, IsRowAt}
 use Rattle.nb_saga_store.specs.Writes.{written_of, with_written, all_written, change_of, changes_of}
 use Rattle.nb_saga_store.specs.Written.{IsSpelled}
@@ -84,7 +84,7 @@ module _ {K V : Type 0} {R : K → K → Ordering} (x : IsExact R) where
     without-spelled k [] alone q = elim (bytes_eq q (key k)) as (λ b. none ≡ cond b none none) [ true ↦ refl | false ↦ refl ]
     without-spelled k (e ∷ es) alone q =
         (elim (eq_by_cmp R k e.0) as (λ t. eq_by_cmp R k e.0 ≡ t
-            → spelled_at key bytes (cond (not t) (e ∷ where_key R (λ j. not (eq_by_cmp R k j)) es) (where_key R (λ j. not (eq_by_cmp R k j)) es)) q ≡ cond (bytes_eq q (key k)) None (spelled_at key bytes (e ∷ es) q)) [
+        → spelled_at key bytes (cond (not t) (e ∷ where_key R (λ j. not (eq_by_cmp R k j)) es) (where_key R (λ j. not (eq_by_cmp R k j)) es)) q ≡ cond (bytes_eq q (key k)) None (spelled_at key bytes (e ∷ es) q)) [
           | true ↦ λ is. without-spelled k es alone.1 q ∙ passed (bytes_eq q (key k)) (bytes_eq q (key e.0)) _ _ _ (ap (λ j. bytes_eq q (key j)) (ties x k e.0 is))
           | false ↦ λ is.
               ap (λ o. cond (bytes_eq q (key e.0)) (Some (bytes e.1)) o) (without-spelled k es alone.1 q)
@@ -98,11 +98,11 @@ module _ {K V : Type 0} {R : K → K → Ordering} (x : IsExact R) where
       let left = where_key R p (finite.entries m) in
       let sorted = is_sorted-where_key R p (finite.entries m) (finite.entries_sorted m) in
       ap finite.entries (finite.same_map x.total x.same (finite.remove m k) (finite.from_sorted left) (λ q.
-          finite.get-remove x.total m k q
-          ∙ ap (λ b. cond b None (finite.get m q)) (symmetric x q k) ∙ sym (turned (eq_by_cmp R k q) (finite.get m q) None)
-          ∙ ap (λ o. cond (p q) o None) (finite.get-entries m q)
-          ∙ sym (find-where_key R p q (λ j tied. ap (λ r. not (is_eq r)) (sym (alike_right x.total q j k tied))) (finite.entries m))
-          ∙ sym (finite.get-from_sorted R left q sorted)))
+      finite.get-remove x.total m k q
+      ∙ ap (λ b. cond b None (finite.get m q)) (symmetric x q k) ∙ sym (turned (eq_by_cmp R k q) (finite.get m q) None)
+      ∙ ap (λ o. cond (p q) o None) (finite.get-entries m q)
+      ∙ sym (find-where_key R p q (λ j tied. ap (λ r. not (is_eq r)) (sym (alike_right x.total q j k tied))) (finite.entries m))
+      ∙ sym (finite.get-from_sorted R left q sorted)))
       ∙ finite.entries-from_sorted R left sorted
 
   module _ (P : K → V → Type 0) where
@@ -174,26 +174,34 @@ alone_name name (e ∷ es) = (λ spelled. spelled, alone_name name es)
 
 -- what a write leaves stands in the cells after its change
 pub write_one : (m : CellMap) (t : Stored) (w : Written) → AreSpelled t → IsSpelled w → HaveStored m t → HaveStored (with_change m (change_of w)) (with_written t w) × AreSpelled (with_written t w)
-write_one m t (Saga place row) are is has =
-    (record {
-      sagas = λ q. ap (cond (bytes_eq q (spelled_place place)) (Some (spelled_saga row))) (has.sagas q) ∙ sym (spelled-insert places spelled_place spelled_saga t.sagas place row (alone_place place _ (is.1.0, is.1.1) are.sagas) q);
-      rows = has.rows;
-    }, record { sagas = each-insert places IsSagaAt t.sagas place row are.sagas is; rows = are.rows })
-write_one m t (SagaGone place) are is has =
-    (record {
-      sagas = λ q. ap (cond (bytes_eq q (spelled_place place)) None) (has.sagas q) ∙ sym (spelled-remove places spelled_place spelled_saga t.sagas place (alone_place place _ is are.sagas) q);
-      rows = has.rows;
-    }, record { sagas = each-remove places IsSagaAt t.sagas place are.sagas; rows = are.rows })
-write_one m t (Row name row) are is has =
-    (record {
-      sagas = has.sagas;
-      rows = λ q. ap (cond (bytes_eq q name) (Some (spelled_row row))) (has.rows q) ∙ sym (spelled-insert names (λ n. n) spelled_row t.rows name row (alone_name name _) q);
-    }, record { sagas = are.sagas; rows = each-insert names IsRowAt t.rows name row are.rows is })
-write_one m t (RowGone name) are is has =
-    (record {
-      sagas = has.sagas;
-      rows = λ q. ap (cond (bytes_eq q name) None) (has.rows q) ∙ sym (spelled-remove names (λ n. n) spelled_row t.rows name (alone_name name _) q);
-    }, record { sagas = are.sagas; rows = each-remove names IsRowAt t.rows name are.rows })
+write_one m t (Saga place row) are is has = (
+  record {
+    sagas = λ q. ap (cond (bytes_eq q (spelled_place place)) (Some (spelled_saga row))) (has.sagas q) ∙ sym (spelled-insert places spelled_place spelled_saga t.sagas place row (alone_place place _ (is.1.0, is.1.1) are.sagas) q);
+    rows = has.rows;
+  },
+  record { sagas = each-insert places IsSagaAt t.sagas place row are.sagas is; rows = are.rows },
+)
+write_one m t (SagaGone place) are is has = (
+  record {
+    sagas = λ q. ap (cond (bytes_eq q (spelled_place place)) None) (has.sagas q) ∙ sym (spelled-remove places spelled_place spelled_saga t.sagas place (alone_place place _ is are.sagas) q);
+    rows = has.rows;
+  },
+  record { sagas = each-remove places IsSagaAt t.sagas place are.sagas; rows = are.rows },
+)
+write_one m t (Row name row) are is has = (
+  record {
+    sagas = has.sagas;
+    rows = λ q. ap (cond (bytes_eq q name) (Some (spelled_row row))) (has.rows q) ∙ sym (spelled-insert names (λ n. n) spelled_row t.rows name row (alone_name name _) q);
+  },
+  record { sagas = are.sagas; rows = each-insert names IsRowAt t.rows name row are.rows is },
+)
+write_one m t (RowGone name) are is has = (
+  record {
+    sagas = has.sagas;
+    rows = λ q. ap (cond (bytes_eq q name) None) (has.rows q) ∙ sym (spelled-remove names (λ n. n) spelled_row t.rows name (alone_name name _) q);
+  },
+  record { sagas = are.sagas; rows = each-remove names IsRowAt t.rows name are.rows },
+)
 
 -- what the writes of a plan leave stands in the cells after their changes
 pub write_all : (endpoint : List ℕ) (n : ℕ) (m : CellMap) (t : Stored) (ws : List Write) → AreSpelled t → AllByRecursion (λ w. IsSpelled (written_of endpoint n w)) ws → HaveStored m t
@@ -214,3 +222,14 @@ pub elsewhere : (endpoint : List ℕ) (n : ℕ) (m : CellMap) (ws : List Write) 
 elsewhere endpoint n m [] space key two three = refl
 elsewhere endpoint n m (w ∷ ws) space key two three =
     elsewhere endpoint n (with_change m (change_of (written_of endpoint n w))) ws space key two three ∙ elsewhere_one m (written_of endpoint n w) space key two three
+
+spelled_one : (t : Stored) (w : Written) → AreSpelled t → IsSpelled w → AreSpelled (with_written t w)
+spelled_one t (Saga place row) are is = record { sagas = each-insert places IsSagaAt t.sagas place row are.sagas is; rows = are.rows }
+spelled_one t (SagaGone place) are is = record { sagas = each-remove places IsSagaAt t.sagas place are.sagas; rows = are.rows }
+spelled_one t (Row name row) are is = record { sagas = are.sagas; rows = each-insert names IsRowAt t.rows name row are.rows is }
+spelled_one t (RowGone name) are is = record { sagas = are.sagas; rows = each-remove names IsRowAt t.rows name are.rows }
+
+-- what the writes of a plan leave has spellings
+pub write_spelled : (endpoint : List ℕ) (n : ℕ) (t : Stored) (ws : List Write) → AreSpelled t → AllByRecursion (λ w. IsSpelled (written_of endpoint n w)) ws → AreSpelled (all_written endpoint n t ws)
+write_spelled endpoint n t [] are is = are
+write_spelled endpoint n t (w ∷ ws) are is = write_spelled endpoint n (with_written t (written_of endpoint n w)) ws (spelled_one t (written_of endpoint n w) are is.0) is.1

@@ -1,13 +1,12 @@
 -- Names that are there once.
 use Rattle.std.specs.Prelude.{◌≡◌, ◌≤◌, ℕ, zero, suc, ◌+◌, List, [], ◌∷◌, ◌++◌, map, length, take, slice_get, Bool, true, false, cond, not, ◌&&◌, ◌||◌, bytes_eq, is_some, option_copied, Option, Some, None, refl}
-use Rattle.std.proofs.Common.{Bor, ◌∙◌, ap, sym, subst, arith, true≢false}
+use Rattle.std.proofs.Common.{Bor, ◌∙◌, ap, sym, arith, true≢false}
 use Rattle.std.specs.Ordering.{eq_by_cmp}
 use Rattle.std.specs.Cmp.Lexicographic.{texts_ties, bytes_decides, nat_list_cmp_total}
 use Rattle.std.specs.List.{list_any, AllByRecursion, IsDistinct}
 use Rattle.std.specs.FinMap as finite
 use Rattle.std.proofs.lemmas.List.{take_all}
 use Rattle.nb_base.specs.Orders.{ByName, name_cmp}
-use Rattle.nb_base.specs.Sound.{HaveDistinctNames}
 use Rattle.nb_base.specs.declared.value.Field.{Field}
 use Rattle.nb_base.proofs.ListLaws.{take_next}
 use Rattle.nb_saga_store.specs.Read.{are_once, have_distinct_names}

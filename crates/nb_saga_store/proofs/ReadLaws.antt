@@ -9,15 +9,14 @@ use Rattle.nb_base.specs.declared.tables.Row.{Row}
 use Rattle.nb_cells.specs.declared.cell.Cell.{Cell}
 use Rattle.nb_envelope.specs.Cells.{◌>>=◌, whole, Gives}
 use Rattle.nb_envelope.specs.Formats.{IsBytes}
-use Rattle.nb_envelope.specs.Spelling.{IsText}
 use Rattle.nb_envelope.specs.declared.fault.FormatFault.{FormatFault}
 use Rattle.nb_envelope.specs.declared.fault.FormatFault.TheVariants.{Damaged}
-use Rattle.nb_envelope.proofs.FormatLaws.{some_is, bind_some, test_some, whole_found, whole_again}
-use Rattle.nb_saga_store.specs.Spelled.{spelled_place, spelled_saga, spelled_row, place_of, cell_of_saga, cell_of_row, IsPlace, IsRow, IsStoredSaga, IsStoredRow}
+use Rattle.nb_envelope.proofs.FormatLaws.{some_is, bind_some, whole_found, whole_again}
+use Rattle.nb_saga_store.specs.Spelled.{spelled_place, spelled_saga, spelled_row, place_of, cell_of_saga, cell_of_row, IsPlace, IsRowOf, IsRow, IsStoredSaga, IsStoredRow}
 use Rattle.nb_saga_store.specs.Read.{place_in, saga_in, row_in, saga_of, row_of}
 use Rattle.nb_saga_store.specs.declared.stored.StoredSaga.{StoredSaga}
 use Rattle.nb_saga_store.specs.declared.stored.StoredRow.{StoredRow}
-use Rattle.nb_saga_store.proofs.FormatLaws.{IsRowOf, format_place, format_saga, format_row}
+use Rattle.nb_saga_store.proofs.FormatLaws.{format_place, format_saga, format_row}
 
 -- ---- sagas
 

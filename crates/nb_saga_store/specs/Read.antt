@@ -1,5 +1,5 @@
 -- Sagas and rows read from their cells, or nothing where a cell is the spelling of none.
-use Rattle.std.specs.Prelude.{◌==◌, ◌&&◌, ℕ, ℤ, List, [], ◌∷◌, map, Bool, true, false, not, nat_lt, bytes_eq, if◌then◌else◌, Option, Some, None}
+use Rattle.std.specs.Prelude.{◌==◌, ◌&&◌, ℕ, List, [], ◌∷◌, map, Bool, true, false, not, nat_lt, bytes_eq, if◌then◌else◌, Option, Some, None}
 use Rattle.std.specs.List.{list_any}
 use Rattle.std.specs.Str.{is_utf8}
 use Rattle.nb_base.specs.declared.saga_key.SagaKey.{SagaKey}
@@ -8,8 +8,7 @@ use Rattle.nb_base.specs.declared.tables.Row.{Row}
 use Rattle.nb_base.specs.declared.value.Field.{Field}
 use Rattle.nb_base.specs.declared.value.Value.{Value}
 use Rattle.nb_base.specs.declared.value.Value.TheVariants as value
-use Rattle.nb_cells.specs.declared.cell.Cell.{Cell}
-use Rattle.nb_envelope.specs.Cells.{◌>>=◌, u32_in, u64_in, int_in, text_in, value_in, list_in, items_in, whole}
+use Rattle.nb_envelope.specs.Cells.{◌>>=◌, u32_in, u64_in, int_in, text_in, value_in, list_in, whole}
 use Rattle.nb_saga_store.specs.declared.stored.StoredSaga.{StoredSaga}
 use Rattle.nb_saga_store.specs.declared.stored.StoredRow.{StoredRow}
 

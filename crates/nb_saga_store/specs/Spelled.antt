@@ -1,11 +1,12 @@
 -- The one spelling of a stored saga and of a stored row in cells, and what has one.
-use Rattle.std.specs.Prelude.{◌≡◌, ◌<◌, ◌≤◌, ◌^◌, ◌==◌, ℕ, ℤ, List, [], ◌∷◌, ◌++◌, FitsSigned, if◌then◌else◌}
+use Rattle.std.specs.Prelude.{◌≡◌, ◌<◌, ◌≤◌, ◌^◌, ◌==◌, ℕ, List, [], ◌∷◌, ◌++◌, FitsSigned, if◌then◌else◌}
 use Rattle.std.specs.Int.{w64}
 use Rattle.nb_base.specs.Sound.{CanCorrelate, HaveDistinctNames}
 use Rattle.nb_base.specs.declared.saga_key.SagaKey.{SagaKey}
 use Rattle.nb_base.specs.declared.saga_row.SagaRow.{SagaRow}
 use Rattle.nb_base.specs.declared.tables.Row.{Row}
 use Rattle.nb_base.specs.declared.value.Field.{Field}
+use Rattle.nb_base.specs.declared.value.Value.{Value}
 use Rattle.nb_cells.specs.declared.cell.Cell.{Cell}
 use Rattle.nb_envelope.specs.Spelling.{spelled_u32, spelled_u64, spelled_int, spelled_text, spelled_value, spelled_list, IsText, IsValue, IsList}
 use Rattle.nb_saga_store.specs.declared.stored.StoredSaga.{StoredSaga}
@@ -63,6 +64,10 @@ pub record IsSagaRow (row : SagaRow) : Type 0 where
   pub originator : IsText row.originator
   pub original : IsText row.original
   pub fields : IsFields row.fields
+
+-- the row of a saga with this correlation value
+abbrev pub IsRowOf : Value → SagaRow → Type 0
+IsRowOf corr row = (row.corr ≡ corr) × IsSagaRow row
 
 pub record IsStoredSaga (s : StoredSaga) : Type 0 where
   pub place : IsPlace (place_of s)

@@ -3,6 +3,7 @@
 
 mod cells;
 mod changes;
+mod laws;
 mod put;
 mod read;
 mod stored;
@@ -11,6 +12,10 @@ mod written;
 
 pub use cells::{row_cell, saga_cell};
 pub use changes::write_changes;
-pub use read::{read_row, read_saga};
+pub use laws::{law_places, law_rows, law_sagas, law_writes};
+pub use read::{ROWS, SAGAS, read_row, read_saga};
 pub use stored::{StoredRow, StoredSaga};
 pub use written::Written;
+
+#[cfg(test)]
+mod tests;

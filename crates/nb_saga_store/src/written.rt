@@ -5,7 +5,9 @@ ghost use Rattle.nb_saga_store.specs.Written.{CanSpell, IsSpelled};
 
 use crate::put::{name_bytes, place_bytes, row_bytes, saga_bytes};
 use crate::read::{ROWS, SAGAS};
-use nb_base::{Bytes, Copied, Fields, NoMemory, Row, SagaKey, SagaRef, SagaRow, Text, Value, Write};
+use nb_base::{
+    Bytes, Copied, Fields, NoMemory, Row, SagaKey, SagaRef, SagaRow, Text, Value, Write,
+};
 use nb_cells::Change;
 use std::alloc::Global;
 
@@ -53,7 +55,10 @@ impl Written {
                 fields,
             } => {
                 let saga = saga.copy()?;
-                let place = SagaKey { saga, corr: corr.copy()? };
+                let place = SagaKey {
+                    saga,
+                    corr: corr.copy()?,
+                };
                 let row = SagaRow {
                     corr: corr.copy()?,
                     id: id_of(alloc, endpoint, n, which)?,
@@ -74,7 +79,10 @@ impl Written {
             }
             Write::RowPut { name, value } => {
                 let name = name.copy()?;
-                let row = Row { version: n, value: *value };
+                let row = Row {
+                    version: n,
+                    value: *value,
+                };
                 Ok(Written::Row { name, row })
             }
             Write::RowErase { name } => Ok(Written::RowGone { name: name.copy()? }),

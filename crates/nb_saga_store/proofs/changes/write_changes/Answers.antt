@@ -1,4 +1,4 @@
-use Rattle.nb_saga_store.proofs.ChangeLaws.{Made-next, all_at}
+use Rattle.nb_saga_store.proofs.ChangeLaws.{Made-next}
 use Rattle.nb_saga_store.proofs.changes.write_changes.Goals as goal
 
 pub loop-i-preserved : goal.loop-i-preserved

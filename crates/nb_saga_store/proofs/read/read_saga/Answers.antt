@@ -1,4 +1,3 @@
-use Rattle.std.proofs.Common.{sym}
 use Rattle.nb_saga_store.proofs.ReadLaws.{read_saga-found, read_saga-only, read_saga-damaged}
 use Rattle.nb_saga_store.proofs.read.read_saga.Goals as goal
 

@@ -1,6 +1,5 @@
-use Rattle.std.proofs.Common.{◌≡◌, ◌∙◌, ap, sym, true, false}
+use Rattle.std.proofs.Common.{◌∙◌, ap, sym}
 use Rattle.std.specs.Prelude.{is_some}
-use Rattle.std.specs.FinMap as finite
 use Rattle.nb_saga_store.proofs.OnceLaws.{SeenNames-start, SeenNames-next, SeenNames-again, is_some_copied}
 use Rattle.nb_saga_store.proofs.take.have_distinct_names.Goals as goal
 

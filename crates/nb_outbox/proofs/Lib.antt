@@ -1,0 +1,3 @@
+pub mod ItemsLaws
+pub mod FormatLaws
+pub mod ReadLaws
