@@ -1,0 +1,4 @@
+pub mod SeatLaws
+pub mod FirstLaws
+pub mod NodeLaws
+pub mod CountLaws
