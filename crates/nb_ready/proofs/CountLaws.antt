@@ -66,12 +66,14 @@ absent o s e f = cc
 -- what holds of each number that is found holds of all
 all_found : (P : ℕ → Type 0) (es : List (ℕ × Seat)) → T (is_sorted nat_cmp es) → ((q : ℕ) (s : Seat) → find nat_cmp q es ≡ Some s → P q) → AllByRecursion (λ e. P e.0) es
 all_found P [] sorted h = tt
-all_found P (e ∷ es) sorted h =
-    (h e.0 e.1 (ap (λ b. cond b (Some e.1) (find nat_cmp e.0 es)) (itself numbers e.0)), all_found P es (second _ _ sorted) (λ q s found.
-    elim (same_or_other numbers q e.0) [
-      | inl same ↦ absurd (absent _ s (none_below e.0 es (first _ _ sorted)) (subst (λ k. find nat_cmp k es ≡ Some s) same found))
-      | inr other ↦ h q s (ap (λ b. cond b (Some e.1) (find nat_cmp q es)) (apart numbers q e.0 other) ∙ found)
-    ]))
+all_found P (e ∷ es) sorted h = (
+  h e.0 e.1 (ap (λ b. cond b (Some e.1) (find nat_cmp e.0 es)) (itself numbers e.0)),
+  all_found P es (second _ _ sorted) (λ q s found.
+      elim (same_or_other numbers q e.0) [
+        | inl same ↦ absurd (absent _ s (none_below e.0 es (first _ _ sorted)) (subst (λ k. find nat_cmp k es ≡ Some s) same found))
+        | inr other ↦ h q s (ap (λ b. cond b (Some e.1) (find nat_cmp q es)) (apart numbers q e.0 other) ∙ found)
+      ]),
+)
 
 -- the entries of both sides, one after the other
 pub entries-joined : (l r : Seats) (p : ℕ) → AreApart l p r → finite.entries (joined l r) ≡ finite.entries l ++ finite.entries r
@@ -79,8 +81,8 @@ entries-joined l r p a =
     let es = finite.entries l in
     let fs = finite.entries r in
     let sorted = sorted_both p es fs (finite.entries_sorted l) (finite.entries_sorted r)
-        (all_found (λ q. q < p) es (finite.entries_sorted l) (λ q s found. a.below q s (finite.get-entries l q ∙ found)))
-        (all_found (λ q. p ≤ q) fs (finite.entries_sorted r) (λ q s found. a.from q s (finite.get-entries r q ∙ found))) in
+    (all_found (λ q. q < p) es (finite.entries_sorted l) (λ q s found. a.below q s (finite.get-entries l q ∙ found)))
+    (all_found (λ q. p ≤ q) fs (finite.entries_sorted r) (λ q s found. a.from q s (finite.get-entries r q ∙ found))) in
     ap finite.entries (same_seats (joined l r) (finite.from_sorted (es ++ fs)) (λ q. finite.get-from_entries nat_cmp_total (es ++ fs) q ∙ sym (finite.get-from_sorted nat_cmp (es ++ fs) q sorted)))
     ∙ finite.entries-from_sorted nat_cmp (es ++ fs) sorted
 

@@ -26,18 +26,22 @@ no_due s due e f = cc
 
 two_due : (l r : Seats) (p : ℕ) (a b : Waiting) (t : Bool) → nat_lt b.due a.due ≡ t → AreApart l p r → IsFirstDue l (Some a) → IsFirstDue r (Some b) → IsFirstDue (joined l r) (cond t (Some b) (Some a))
 two_due l r p a b true e apart x y =
-    let lt : b.due < a.due = ltb-true _ _ e in
-    ((y.0.0, joined_high l r p b.number y.0.0 apart y.0.1, y.0.2), λ q s due has is. elim (has_joined l r q s has) [
-      | inl h ↦ let le = (x.1 q s due h is).0 in (omega arith, λ same. absurd (omega arith))
-      | inr h ↦ y.1 q s due h is
-    ])
+    let lt : b.due < a.due = ltb-true _ _ e in (
+      (y.0.0, joined_high l r p b.number y.0.0 apart y.0.1, y.0.2),
+      λ q s due has is. elim (has_joined l r q s has) [
+        | inl h ↦ let le = (x.1 q s due h is).0 in (omega arith, λ same. absurd (omega arith))
+        | inr h ↦ y.1 q s due h is
+      ],
+    )
 two_due l r p a b false e apart x y =
     let le : a.due ≤ b.due = ltb-false _ _ e in
-    let lt = apart.below a.number x.0.0 x.0.1 in
-    ((x.0.0, joined_low l r a.number x.0.0 x.0.1, x.0.2), λ q s due has is. elim (has_joined l r q s has) [
-      | inl h ↦ x.1 q s due h is
-      | inr h ↦ let later = (y.1 q s due h is).0 in let from = apart.from q s h in (omega arith, λ same. omega arith)
-    ])
+    let lt = apart.below a.number x.0.0 x.0.1 in (
+      (x.0.0, joined_low l r a.number x.0.0 x.0.1, x.0.2),
+      λ q s due has is. elim (has_joined l r q s has) [
+        | inl h ↦ x.1 q s due h is
+        | inr h ↦ let later = (y.1 q s due h is).0 in let from = apart.from q s h in (omega arith, λ same. omega arith)
+      ],
+    )
 
 both_due : (l r : Seats) (p : ℕ) (a b : Option Waiting) → AreApart l p r → IsFirstDue l a → IsFirstDue r b → IsFirstDue (joined l r) (earlier a b)
 both_due l r p None None apart x y = λ q s has. elim (has_joined l r q s has) [ inl h ↦ x q s h | inr h ↦ y q s h ]
@@ -75,11 +79,13 @@ one_free n s false e = λ q t has. ap is_free (sym (only n q s t has).1) ∙ e
 
 one_due : (n : ℕ) (s : Seat) (o : Option ℕ) → s.due ≡ o → IsFirstDue (finite.insert finite.empty n s) (first_of n (record s { due = o })).due
 one_due n s None e = λ q t has. ap (λ x. x.due) (sym (only n q s t has).1) ∙ e
-one_due n s (Some due) e =
-    ((s, at_same numbers finite.empty n s, e), λ q t other has is.
+one_due n s (Some due) e = (
+  (s, at_same numbers finite.empty n s, e),
+  λ q t other has is.
       let same = only n q s t has in
       let dues : due ≡ other = some_is due other (sym e ∙ ap (λ x. x.due) same.1 ∙ is) in
-      (omega arith, λ _. let number = same.0 in omega arith))
+      (omega arith, λ _. let number = same.0 in omega arith),
+)
   where
     some_is : (x y : ℕ) → Some x ≡ Some y → x ≡ y
     some_is x y e = cc

@@ -2,3 +2,4 @@ pub mod SeatLaws
 pub mod FirstLaws
 pub mod NodeLaws
 pub mod CountLaws
+pub mod ChangeLaws

@@ -7,3 +7,6 @@ mod seat;
 mod tree;
 
 pub use ready::Ready;
+
+#[cfg(test)]
+mod tests;

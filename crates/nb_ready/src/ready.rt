@@ -55,12 +55,7 @@ impl Ready {
             return Err(NoMemory);
         }
         self.room.reserve(self.len + 1)?;
-        let seat = Seat {
-            due,
-            held: false,
-            count: 0,
-        };
-        self.tree.add(alloc, 64, number, seat)?;
+        self.tree.add(alloc, 64, number, Seat::new(due))?;
         self.len += 1;
         Ok(())
     }

@@ -1,6 +1,6 @@
 //! What is known of a number.
 ghost use Rattle.std.specs.Prelude.{◌≡◌};
-ghost use Rattle.nb_ready.specs.Seats.{is_free};
+ghost use Rattle.nb_ready.specs.Seats.{fresh, is_free};
 
 use nb_base::Moment;
 
@@ -13,6 +13,17 @@ pub(crate) struct Seat {
 }
 
 impl Seat {
+    /// Of a number that was just added.
+    pub fn new(due: Option<Moment>) -> Seat
+        ensures { result ≡ fresh due }
+    {
+        Seat {
+            due,
+            held: false,
+            count: 0,
+        }
+    }
+
     /// Whether it has no due and isn't held.
     pub fn is_free(&self) -> bool
         ensures { result ≡ is_free self.now }

@@ -74,13 +74,7 @@ impl Tree {
     {
         match &self.node {
             Node::Empty => None,
-            Node::One(n, seat) => {
-                if *n == number {
-                    Some(*seat)
-                } else {
-                    None
-                }
-            }
+            Node::One(n, seat) => { if *n == number { Some(*seat) } else { None } }
             Node::Fork(low, pivot, _, high) => {
                 if number < *pivot {
                     low.get(number)
@@ -141,13 +135,7 @@ impl Tree {
     }
 
     /// Adds a number. The tree has the numbers of a range that is `top` bits wide.
-    pub fn add(
-        &mut self,
-        alloc: Global,
-        top: u32,
-        number: u64,
-        seat: Seat,
-    ) -> Result<(), NoMemory>
+    pub fn add(&mut self, alloc: Global, top: u32, number: u64, seat: Seat) -> Result<(), NoMemory>
         requires new { finite.get self.old.0 number ≡ None }
         requires top { top ≤ 64 }
         ensures ok { OnOk result (self.new.0 ≡ finite.insert self.old.0 number seat) }
@@ -298,14 +286,7 @@ fn within(alloc: Global, tree: Tree, pivot: u64, from: u64, to: u64) -> Result<T
 }
 
 /// Two numbers in a range that is `top` bits wide.
-fn rising(
-    alloc: Global,
-    top: u32,
-    n: u64,
-    s: Seat,
-    m: u64,
-    t: Seat,
-) -> Result<Tree, NoMemory>
+fn rising(alloc: Global, top: u32, n: u64, s: Seat, m: u64, t: Seat) -> Result<Tree, NoMemory>
     requires rising { n < m }
     requires top { top ≤ 64 }
     ensures { IfOk result (λ tree. tree.0 ≡ finite.insert (finite.insert finite.empty n s) m t) }
