@@ -2,5 +2,7 @@
 #![tactic(auto)]
 
 pub mod expr;
+pub mod fault;
 pub mod item;
+pub mod lexeme;
 pub mod stmt;
