@@ -4,3 +4,6 @@ pub mod Tokens
 pub mod Operators
 pub mod SoundExpr
 pub mod CompleteExpr
+pub mod SoundScript
+pub mod SoundItems
+pub mod CompleteScript
