@@ -148,11 +148,11 @@ arg_row room = record {
   ending = λ x fx o e. end_follows x.comma_at o e;
 }
 
-closes_at : (g : Source) (m q : ℕ) → g m ≡ Some (symbol_token sym'.CloseBrace q) → closes (g m) ≡ true
+pub closes_at : (g : Source) (m q : ℕ) → g m ≡ Some (symbol_token sym'.CloseBrace q) → closes (g m) ≡ true
 unfolding seen
 closes_at g m q at = ap closes at
 
-no_dot_symbol : (g : Source) (m q : ℕ) → g m ≡ Some (symbol_token sym'.OpenBrace q) → read.no_dot (g m) ≡ true
+pub no_dot_symbol : (g : Source) (m q : ℕ) → g m ≡ Some (symbol_token sym'.OpenBrace q) → read.no_dot (g m) ≡ true
 unfolding seen
 no_dot_symbol g m q at = ap read.no_dot at
 
@@ -247,7 +247,7 @@ publish_reads : (E : Excuse) (lines : ℕ) → Far E lines → (room p : ℕ) (x
 unfolding read.publish_statement
 publish_reads E lines far room p x s fits g k m h = bind_reads _ (key_reads kw.Publish h.0) (made_reads E lines far room (λ x s. Publish p x s) x s fits g (suc k) m h.2)
 
-free_seen : (x : List ℕ) (p : ℕ) → IsName x → seen (Some (word_token x p)) ≡ see.Name
+pub free_seen : (x : List ℕ) (p : ℕ) → IsName x → seen (Some (word_token x p)) ≡ see.Name
 unfolding seen
 free_seen x p free = ap seen_word free
 
@@ -408,7 +408,7 @@ if_reads : (E : Excuse) (room : ℕ) (i : Inside) → InRoom E room i → (p : �
 unfolding read.if_statement
 if_reads E room i l p e b o fits g k m h f = bind_reads _ (key_reads kw.If h.0) (bind_reads _ (branch_complete E room i l (record { test = e; block = b; otherwise = o }) fits g (suc k) m h.2 f) (ret_reads E _ g m m refl))
 
-as_seen : (E : Excuse) (lines room : ℕ) (i : Inside) (g : Source) (k : ℕ) (x : Phrase) (m : ℕ) (t : Lexeme) → g k ≡ Some t → Reads E (read.statement_by lines room i (seen (Some t))) g k x m → Reads E (read.statement lines room i) g k x m
+pub as_seen : (E : Excuse) (lines room : ℕ) (i : Inside) (g : Source) (k : ℕ) (x : Phrase) (m : ℕ) (t : Lexeme) → g k ≡ Some t → Reads E (read.statement_by lines room i (seen (Some t))) g k x m → Reads E (read.statement lines room i) g k x m
 unfolding read.statement
 as_seen E lines room i g k x m t at h = look_reads (λ o. read.statement_by lines room i (seen o)) (Some t) at h
 

@@ -7,3 +7,4 @@ pub mod CompleteExpr
 pub mod SoundScript
 pub mod SoundItems
 pub mod CompleteScript
+pub mod CompleteItems
