@@ -8,3 +8,4 @@ pub mod SoundScript
 pub mod SoundItems
 pub mod CompleteScript
 pub mod CompleteItems
+pub mod First
