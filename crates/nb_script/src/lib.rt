@@ -5,4 +5,5 @@ pub mod expr;
 pub mod fault;
 pub mod item;
 pub mod lexeme;
+pub mod parser;
 pub mod stmt;
