@@ -1,0 +1,11 @@
+pub mod Laws
+pub mod Complete
+pub mod Tokens
+pub mod Operators
+pub mod SoundExpr
+pub mod CompleteExpr
+pub mod SoundScript
+pub mod SoundItems
+pub mod CompleteScript
+pub mod CompleteItems
+pub mod First

@@ -1,5 +1,9 @@
 -- The script that a tree in memory is.
-use Rattle.std.specs.Prelude.{List, [], ◌∷◌, map, option_map}
+use Rattle.std.specs.Prelude.{◌≡◌, ℕ, List, map, option_map, Result, Ok, Err}
+use Rattle.nb_script.specs.declared.fault.Halt.{Halt}
+use Rattle.nb_script.specs.declared.fault.Halt.TheVariants.{Memory, Stopped}
+use Rattle.nb_script.specs.Reading.{Outcome}
+use Rattle.nb_script.specs.ReadingScript.{in_row}
 use Rattle.nb_script.specs.declared.expr.Expr.{Expr}
 use Rattle.nb_script.specs.declared.expr.Expr.TheOpen as e
 use Rattle.nb_script.specs.declared.expr.Expr.TheOpen.{Expr-F}
@@ -52,10 +56,6 @@ row_name r = record { at = r.at; open_at = r.open_at; name = tree r.name; close_
 
 abbrev pub after : After → AfterTerm
 after a = record { at = a.at; delay = tree a.delay }
-
-abbrev pub in_row : List Phrase → Phrases
-in_row [] = Nil
-in_row (x ∷ xs) = Then x (in_row xs)
 
 abbrev pub node_block : Block-F Otherwise Phrase Braces → Braces
 node_block b = Brace b.open_at (in_row b.body) b.close_at
@@ -122,3 +122,15 @@ item (i.Saga s) = Saga (saga s)
 -- the items of a script
 abbrev pub script : List Item → List ItemTerm
 script items = map item items
+
+-- ---- what a function that parses gives
+
+-- a function that stopped so read this, unless memory ran out
+abbrev pub Fails : {A : Type 0} → Halt → Outcome A → Type 0
+Fails Memory read = Unit {0}
+Fails (Stopped f k) read = read ≡ Err (f, k)
+
+-- what a function returned is what is read, unless memory ran out
+abbrev pub Gives : {X A : Type 0} → (X → A × ℕ) → Result X Halt → Outcome A → Type 0
+Gives view (Ok x) read = read ≡ Ok (view x)
+Gives view (Err e) read = Fails e read

@@ -2,5 +2,8 @@
 #![tactic(auto)]
 
 pub mod expr;
+pub mod fault;
 pub mod item;
+pub mod lexeme;
+pub mod parser;
 pub mod stmt;
