@@ -1,7 +1,7 @@
 -- A text cut at its first semicolon.
 use Rattle.std.specs.Prelude.{◌≡◌, ◌<◌, ◌≤◌, ℕ, List, [], ◌∷◌, length, Bool, true, false, bytes_eq, cond, Option, Some, None, position, refl, not, ◌==◌, ◌+◌}
-use Rattle.std.proofs.Common.{◌∙◌, sym, ap, ap₂, arith}
-use Rattle.std.specs.List.{slice_split, position_or_len, before_first, after_first, onto_first}
+use Rattle.std.proofs.Common.{◌∙◌, sym, ap, arith}
+use Rattle.std.specs.List.{position_or_len, before_first, after_first, onto_first}
 use Rattle.std.specs.Option.{option_or}
 use Rattle.std.proofs.lemmas.List.Splits.{slice_split_first}
 use Rattle.nb_headers.specs.Reads.{type_name, entries_of, first_declared}

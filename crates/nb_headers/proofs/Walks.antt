@@ -1,5 +1,5 @@
 -- The walk over years and months comes to jiff's date.
-use Rattle.std.specs.Prelude.{◌≡◌, ◌<◌, ◌≤◌, ◌^◌, ◌⊎◌, ℕ, zero, suc, ◌+◌, ◌-◌, Bool, true, false, cond, nat_lt, ℤ, pos, negsuc, neg_ℤ, int_div, ◌*◌, ◌/◌, ◌*ℤ◌, ◌-ℤ◌, ◌+ℤ◌, ◌≤ℤ◌, ◌<ℤ◌, refl}
+use Rattle.std.specs.Prelude.{◌≡◌, ◌<◌, ◌≤◌, ◌^◌, ◌⊎◌, ℕ, zero, suc, ◌+◌, ◌-◌, true, false, cond, nat_lt, ℤ, pos, negsuc, int_div, ◌*◌, ◌/◌, ◌*ℤ◌, ◌-ℤ◌, ◌≤ℤ◌, refl}
 use Rattle.std.proofs.Common.{◌∙◌, sym, ap, ap₂, arith, ltb-true, ltb-false, inl, inr}
 use Rattle.jiff_core.specs.Calendar.{IsCivilDate, IsYear, days_in_year, days_in_month, day_count, day_of_year, days_of_months, days_from_civil}
 use Rattle.jiff_core.specs.declared.civil.date.Date.{Date}

@@ -1,3 +1,5 @@
+pub mod Faults
 pub mod HeaderNames
 pub mod Moments
+pub mod Outgoing
 pub mod Reads

@@ -1,5 +1,5 @@
 -- What headers say of a message: its id, its type and its round of retries.
-use Rattle.std.specs.Prelude.{ℕ, ◌-◌, List, [], ◌∷◌, length, take, drop, Bool, ◌&&◌, ◌==◌, nat_le, bytes_eq, if◌then◌else◌, Option, Some, None, unwrap_or, option_and_then, position}
+use Rattle.std.specs.Prelude.{ℕ, ◌-◌, List, [], ◌∷◌, length, take, drop, Bool, ◌&&◌, ◌==◌, nat_le, bytes_eq, if◌then◌else◌, Option, None, unwrap_or, option_and_then, position}
 use Rattle.std.specs.Char.{is_ascii_digit}
 use Rattle.std.specs.List.{list_all, slice_split, before_first, prefix_len, suffix_len}
 use Rattle.std.specs.Option.{option_map_or, option_or}

@@ -1,4 +1,4 @@
-use Rattle.std.proofs.Common.{◌≡◌, ◌∙◌, ◌<◌, ◌^◌, ℕ, pos, sym, ap, ap₂, arith}
+use Rattle.std.proofs.Common.{◌∙◌, ℕ, pos, sym, ap, ap₂, arith}
 use Rattle.nb_headers.specs.Moments.{civil_of}
 use Rattle.nb_headers.proofs.Walks.{civil_of-date, civil_small, abs_16, abs_8}
 use Rattle.nb_headers.proofs.moments.civil_at.Goals as goal

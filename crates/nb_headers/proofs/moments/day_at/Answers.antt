@@ -1,7 +1,7 @@
-use Rattle.std.proofs.Common.{◌≡◌, ◌∙◌, ◌<◌, ◌^◌, ap, arith, w64, pos, ◌+ℤ◌}
+use Rattle.std.proofs.Common.{◌≡◌, ◌∙◌, arith, w64, pos, ◌+ℤ◌}
 use Rattle.std.proofs.lemmas.Result.{IfOk-at_ok}
 use Rattle.std.proofs.lemmas.Int.{to_z_pos}
-use Rattle.jiff.specs.Words.{epoch_day, IsEpochDay}
+use Rattle.jiff.specs.Words.{epoch_day}
 use Rattle.jiff.proofs.SpanFacts.{signed_arith, date_add-days, can_add-days}
 use Rattle.nb_headers.proofs.Walks.{epoch_start}
 use Rattle.nb_headers.proofs.moments.day_at.Goals as goal

@@ -1,7 +1,4 @@
-use Rattle.std.proofs.Common.{◌≡◌, ◌∙◌, ◌<◌, ◌≤◌, ◌*◌, ◌^◌, ap, pos, arith, w64, to_z, of_z, FitsSigned, refl}
-use Rattle.std.specs.Prelude.{unsigned_abs}
-use Rattle.std.proofs.lemmas.Int.{to_z-of_z}
-use Rattle.jiff.proofs.SpanFacts.{signed_arith}
+use Rattle.std.proofs.Common.{arith}
 use Rattle.nb_headers.proofs.Walks.{start_seconds, abs_64}
 use Rattle.nb_headers.proofs.moments.start_of.Goals as goal
 

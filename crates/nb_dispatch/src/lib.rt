@@ -1,0 +1,2 @@
+//! The messages that a commit records to be sent.
+#![tactic(auto)]
