@@ -1,2 +1,4 @@
+pub mod Blocks
 pub mod Bodies
 pub mod Declarations
+pub mod Meets

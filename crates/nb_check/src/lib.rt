@@ -3,7 +3,11 @@
 #![tactic(auto)]
 
 mod bodies;
+mod incoming;
+mod meets;
 mod types;
 
 pub use bodies::BodyFault;
+pub use incoming::{Address, Incoming};
+pub use meets::Blocks;
 pub use types::{Declared, MessageType, SagaType, StateField};
