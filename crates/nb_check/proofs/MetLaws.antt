@@ -1,6 +1,9 @@
--- The numbers of blocks met, of two lists of blocks one behind the other.
+-- What is made of the blocks met, of two lists of blocks one behind the other.
 use Rattle.std.proofs.Common.{◌≡◌, ◌<◌, ℕ, suc, ◌+◌, List, [], ◌∷◌, ◌++◌, length, get_or, drop, refl, sym, ap, ◌∙◌, arith, append_assoc, add-one, drop-cons}
 use Rattle.nb_check.specs.Blocks.{BlockTerm}
+use Rattle.nb_base.specs.declared.value.Key.{Key}
+use Rattle.nb_check.specs.Keys.{met_keys, keys_if_met}
+use Rattle.nb_check.specs.declared.known.Known.{Known}
 use Rattle.nb_check.specs.Meets.{met_from, number_if, is_met}
 use Rattle.nb_check.specs.declared.incoming.Incoming.{Incoming}
 
@@ -21,3 +24,12 @@ met_step m n k all front done xs bs so_far more count =
 
 pub next_of : {A : Type 0} (xs : List A) (i : ℕ) (x : A) → i < length xs → x ≡ get_or xs i x → drop i xs ≡ x ∷ drop (i + 1) xs
 next_of xs i x h e = rw (add-one) (drop-cons xs i x h ∙ ap (λ y. y ∷ drop (suc i) xs) (sym e))
+
+pub keys_behind : (m : Incoming) (k : Known) (xs bs : List BlockTerm) → met_keys m k (xs ++ bs) ≡ met_keys m k xs ++ met_keys m k bs
+keys_behind m k [] bs = refl
+keys_behind m k (x ∷ xs) bs = ap (λ ns. keys_if_met m k x ++ ns) (keys_behind m k xs bs) ∙ sym (append_assoc (keys_if_met m k x) (met_keys m k xs) (met_keys m k bs))
+
+pub keys_step : (m : Incoming) (k : Known) (all front done : List Key) (xs bs : List BlockTerm) → all ≡ front ++ met_keys m k (xs ++ bs) → done ≡ front ++ met_keys m k xs
+    → all ≡ done ++ met_keys m k bs
+keys_step m k all front done xs bs so_far more =
+    so_far ∙ ap (λ ns. front ++ ns) (keys_behind m k xs bs) ∙ sym (append_assoc front (met_keys m k xs) (met_keys m k bs)) ∙ ap (λ ns. ns ++ met_keys m k bs) (sym more)

@@ -1,5 +1,5 @@
 -- A text compared with a type's, name by name.
-use Rattle.std.proofs.Common.{◌≡◌, ℕ, zero, suc, List, [], ◌∷◌, ◌++◌, length, take, drop, Bool, true, false, ◌&&◌, nat_eq, refl, cond}
+use Rattle.std.proofs.Common.{◌≡◌, ℕ, List, [], ◌∷◌, ◌++◌, length, take, drop, true, false, ◌&&◌, nat_eq, refl}
 use Rattle.std.specs.Str.{bytes_eq}
 
 -- a name that the text begins with is taken off both

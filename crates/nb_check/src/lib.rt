@@ -4,10 +4,13 @@
 
 mod bodies;
 mod incoming;
+mod keys;
+mod known;
 mod meets;
 mod types;
 
 pub use bodies::BodyFault;
 pub use incoming::{Address, Incoming};
+pub use known::Known;
 pub use meets::Blocks;
 pub use types::{Declared, MessageType, SagaType, StateField};

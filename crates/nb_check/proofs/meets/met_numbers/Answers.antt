@@ -1,4 +1,4 @@
-use Rattle.std.proofs.Common.{◌≡◌, ◌+◌, ◌∷◌, ◌++◌, List, drop, ap, ◌∙◌, rules}
+use Rattle.std.proofs.Common.{◌≡◌, ◌+◌, ◌∷◌, ◌++◌, List, drop, ap, ◌∙◌}
 use Rattle.nb_script.specs.declared.item.Item.{Item}
 use Rattle.nb_script.specs.Tree.{script, item}
 use Rattle.nb_check.specs.Blocks.{blocks, item_blocks}
