@@ -1,0 +1,203 @@
+//! What the headers of a message say of the blocks that it meets.
+ghost use Rattle.std.specs.Prelude.{◌≡◌, ◌==◌, ◌&&◌, ◌++◌, ◌∷◌, ℕ, List, false, bytes_eq, option_copied, IfOk, MatchOption};
+ghost use Rattle.std.specs.List.{before_first};
+ghost use Rattle.nb_headers.specs.Reads.{type_name, trimmed_start, trimmed_end};
+ghost use Rattle.nb_check.specs.Meets.{is_true, is_timeout, is_empty, address_in, address_by, address_of, incoming_of, incoming, addresses, fits_role, is_met};
+ghost use Rattle.nb_check.specs.Declarations.{type_text};
+ghost use Rattle.nb_check.specs.Blocks.{Handles, part_block};
+ghost use Rattle.nb_script.specs.Tree as tree;
+
+use nb_base::{Bytes, Copied, Envelope, Names, NoMemory, Text};
+use nb_headers::message_type;
+use nb_headers::names::{IS_SAGA_TIMEOUT_MESSAGE, SAGA_ID, SAGA_TYPE};
+use nb_script::expr::TypeName;
+use nb_script::item::{Answer, Part};
+use std::alloc::Global;
+
+/// The saga to which a message goes: the name of its type, and its id.
+#[derive(Debug, Drop)]
+pub struct Address {
+    pub saga: Bytes,
+    pub id: Text,
+}
+
+/// A message whose type is declared.
+#[derive(Debug, Drop)]
+pub struct Incoming {
+    /// The position of its type among the declared messages.
+    pub message: u32,
+    /// The name of its type.
+    pub name: Text,
+    pub timeout: bool,
+    pub address: Option<Address>,
+}
+
+/// The bytes without the spaces at their start.
+fn trimmed_start(mut text: &[u8]) -> &[u8]
+    ensures { result.now ≡ trimmed_start text.entry.now }
+{
+    while let [b' ', rest @ ..] = text {
+        text = rest;
+    }
+    text
+}
+
+/// The bytes without the spaces at their end.
+fn trimmed_end(mut text: &[u8]) -> &[u8]
+    ensures { result.now ≡ trimmed_end text.entry.now }
+{
+    while let [rest @ .., b' '] = text {
+        text = rest;
+    }
+    text
+}
+
+/// What stands before the first comma.
+fn before_comma(text: &str) -> &[u8]
+    ensures { result.now ≡ before_first (λ c. c == 44) text.now }
+{
+    match text.split_once(',') {
+        Some((name, _)) => name.as_bytes(),
+        None => text.as_bytes(),
+    }
+}
+
+/// The name of a type: what stands before the first comma, without the spaces round it.
+fn type_name(text: &str) -> &[u8]
+    ensures { result.now ≡ type_name text.now }
+{
+    trimmed_end(trimmed_start(before_comma(text)))
+}
+
+fn is_timeout(e: &Envelope) -> bool
+    ensures { result ≡ is_timeout e.now }
+{
+    match e.header(IS_SAGA_TIMEOUT_MESSAGE) {
+        Some(text) => text.as_str() == "True" || text.as_str() == "true",
+        None => false,
+    }
+}
+
+fn address_in(alloc: Global, saga: &[u8], id: &Text) -> Result<Option<Address>, NoMemory>
+    ensures { IfOk result (λ a. a ≡ address_in saga.now id.now) }
+{
+    if saga.is_empty() || id.is_empty() {
+        return Ok(None);
+    }
+    let saga = Bytes::new(alloc, saga)?;
+    let id = id.copy()?;
+    Ok(Some(Address { saga, id }))
+}
+
+fn address_by(
+    alloc: Global,
+    saga: Option<&Text>,
+    id: Option<&Text>,
+) -> Result<Option<Address>, NoMemory>
+    ensures { IfOk result (λ a. a ≡ address_by (option_copied saga.entry) (option_copied id.entry)) }
+{
+    match (saga, id) {
+        (Some(saga), Some(id)) => address_in(alloc, type_name(saga.as_str()), id),
+        _ => Ok(None),
+    }
+}
+
+fn address_of(alloc: Global, e: &Envelope) -> Result<Option<Address>, NoMemory>
+    ensures { IfOk result (λ a. a ≡ address_of e.now) }
+{
+    address_by(alloc, e.header(SAGA_TYPE), e.header(SAGA_ID))
+}
+
+/// What stands behind the name, where the text begins with it.
+fn behind_name<'a>(text: &'a [u8], name: &Text) -> Option<&'a [u8]>
+    ensures { MatchOption result ((q : List ℕ) → bytes_eq text.now (name.now ++ q) ≡ false) (λ r. (q : List ℕ) → bytes_eq text.now (name.now ++ q) ≡ bytes_eq r.now q) }
+{
+    text.strip_prefix(name.as_str().as_bytes())
+}
+
+/// What stands behind a dot and the name, where the text begins with them.
+fn behind_dot<'a>(text: &'a [u8], name: &Text) -> Option<&'a [u8]>
+    ensures { MatchOption result ((q : List ℕ) → bytes_eq text.now (46 ∷ name.now ++ q) ≡ false) (λ r. (q : List ℕ) → bytes_eq text.now (46 ∷ name.now ++ q) ≡ bytes_eq r.now q) }
+{
+    match text {
+        [b'.', rest @ ..] => behind_name(rest, name),
+        _ => None,
+    }
+}
+
+/// Whether the text is a type's.
+fn is_type(name: &TypeName, text: &Text) -> bool
+    ensures { result ≡ bytes_eq text.now (type_text name.now) }
+{
+    let Some(mut rest) = behind_name(text.as_str().as_bytes(), &name.name) else {
+        return false;
+    };
+    for part in name.others.as_slice() {
+        match behind_dot(rest, &part.name) {
+            Some(after) => rest = after,
+            None => return false,
+        }
+    }
+    rest.is_empty()
+}
+
+impl Incoming {
+    /// What is said of a message, where its type is declared.
+    pub(crate) fn of(
+        alloc: Global,
+        names: &Names,
+        e: &Envelope,
+    ) -> Result<Option<Incoming>, NoMemory>
+        ensures { IfOk result (λ m. m ≡ incoming names.now e.now) }
+    {
+        let Some(message) = message_type(e, names) else {
+            return Ok(None);
+        };
+        let Some(name) = names.as_slice().get(message as usize) else {
+            return Ok(None);
+        };
+        let name = name.copy()?;
+        let address = address_of(alloc, e)?;
+        Ok(Some(Incoming {
+            message,
+            name,
+            timeout: is_timeout(e),
+            address,
+        }))
+    }
+
+    fn addresses(&self, saga: &Text) -> bool
+        ensures { result ≡ addresses self.now.address saga.now }
+    {
+        match &self.address {
+            None => false,
+            Some(address) => address.saga.as_slice() == saga.as_str().as_bytes(),
+        }
+    }
+
+    /// Whether the message meets the block of a handler of this type.
+    pub(crate) fn meets_handler(&self, name: &TypeName) -> bool
+        ensures { result ≡ (bytes_eq self.now.name (type_text name.now) && fits_role self.now Handles) }
+    {
+        is_type(name, &self.name) && !self.timeout
+    }
+
+    /// Whether the message meets the block of a part of this saga.
+    pub(crate) fn meets_part(&self, saga: &Text, part: &Part) -> bool
+        ensures { result ≡ is_met self.now (part_block saga.now (tree.part part.now)) }
+    {
+        match part {
+            Part::ByField { name, .. } => is_type(name, &self.name) && !self.timeout,
+            Part::ById {
+                answer: Answer::Reply,
+                name,
+                ..
+            } => is_type(name, &self.name) && (!self.timeout && self.addresses(saga)),
+            Part::ById {
+                answer: Answer::Timeout,
+                name,
+                ..
+            } => is_type(name, &self.name) && (self.timeout && self.addresses(saga)),
+        }
+    }
+}
