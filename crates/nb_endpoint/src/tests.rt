@@ -55,7 +55,36 @@ struct Ending {
     text: String,
 }
 
+/// The status and the number of bytes printed, of words on an input, at the first moment.
+fn called(
+    alloc: Global,
+    words: &[Text],
+    mut script: MemSource,
+    mut settings: MemSource,
+    mut lines: MemSource,
+    out: &mut MemSink,
+) -> (Status, u64) {
+    let Ended {
+        status,
+        post: _,
+        base: _,
+        printed,
+    } = run_alone(
+        alloc,
+        words,
+        &mut script,
+        &mut settings,
+        &mut lines,
+        out,
+        MemCells::empty(alloc),
+        MemCells::empty(alloc),
+        &mut FixedClock(Moment::FIRST),
+    );
+    (status, printed)
+}
+
 /// Runs the words on an input, whose reads fail at some calls, and prints in pieces of ten bytes, where some calls fail.
+/// A read of the script or of the settings would fail.
 fn run(
     alloc: Global,
     words: &[&str],
@@ -64,26 +93,11 @@ fn run(
     writes: &[u64],
 ) -> Result<Ending, Fail> {
     let words = texts(alloc, words)?;
-    let mut script = source(alloc, b"", [1].as_slice())?;
-    let mut settings = source(alloc, b"", [1].as_slice())?;
-    let mut lines = source(alloc, input, reads)?;
+    let script = source(alloc, b"", [1].as_slice())?;
+    let settings = source(alloc, b"", [1].as_slice())?;
+    let lines = source(alloc, input, reads)?;
     let mut out = MemSink::new(alloc, 10, 4096, numbers(alloc, writes)?)?;
-    let mut clock = FixedClock(Moment::FIRST);
-    let Ended {
-        status,
-        printed,
-        ..
-    } = run_alone(
-        alloc,
-        words.as_slice(),
-        &mut script,
-        &mut settings,
-        &mut lines,
-        &mut out,
-        MemCells::empty(alloc),
-        MemCells::empty(alloc),
-        &mut clock,
-    );
+    let (status, printed) = called(alloc, words.as_slice(), script, settings, lines, &mut out);
     let text = String::from_str(alloc, std::str::from_utf8(out.held())?)?;
     Ok(Ending {
         status,
