@@ -3,7 +3,9 @@
 
 mod batch;
 mod ids;
+mod laws;
 mod ops;
 mod queues;
 
+pub use laws::{law_ids, law_ops};
 pub use ops::ops_of;
