@@ -9,3 +9,6 @@ mod queues;
 
 pub use laws::{law_ids, law_ops};
 pub use ops::ops_of;
+
+#[cfg(test)]
+mod tests;
