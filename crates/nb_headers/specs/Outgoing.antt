@@ -32,20 +32,30 @@ correlation incoming (Reply to) id = header_or incoming correlation_id (id_of in
 correlation incoming (Originator to original) id = original
 correlation incoming Timeout id = id
 
+-- how the message hangs together with others
+abbrev pub relations : Message → Made → Pairs
+relations incoming made =
+    (conversation_id, conversation incoming)
+    ∷ (correlation_id, correlation incoming made.target made.id)
+    ∷ (related_to, id_of incoming)
+    ∷ []
+
+-- the endpoint that sends it, which takes the replies too
+abbrev pub origin : List ℕ → Pairs
+origin endpoint = (originating_endpoint, endpoint) ∷ (reply_to_address, endpoint) ∷ []
+
+-- what the body is, and when it was sent
+abbrev pub contents : List ℕ → List ℕ → Pairs
+contents name time = (content_type, codes "application/json") ∷ (enclosed_message_types, name) ∷ (time_sent, time) ∷ []
+
 -- the headers that each outgoing message has
 abbrev pub common : Message → Made → Pairs
 common incoming made =
     (id_name, made.id)
     ∷ (message_intent, intent_text made.target)
-    ∷ (conversation_id, conversation incoming)
-    ∷ (correlation_id, correlation incoming made.target made.id)
-    ∷ (related_to, id_of incoming)
-    ∷ (originating_endpoint, made.endpoint)
-    ∷ (reply_to_address, made.endpoint)
-    ∷ (content_type, codes "application/json")
-    ∷ (enclosed_message_types, made.name)
-    ∷ (time_sent, moment_text made.moment)
-    ∷ []
+    ∷ relations incoming made
+    ++ origin made.endpoint
+    ++ contents made.name (moment_text made.moment)
 
 -- the saga that sends the message
 abbrev pub from_saga : Option SagaName → Pairs

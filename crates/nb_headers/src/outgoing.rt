@@ -3,7 +3,7 @@ ghost use Rattle.std.specs.Prelude.{◌≡◌, ◌≢◌, ◌<◌, ◌++◌, len
 ghost use Rattle.nb_base.specs.Messages.{header};
 ghost use Rattle.nb_headers.specs.Faults.{with_headers};
 ghost use Rattle.nb_headers.specs.Reads.{id_of, header_or};
-ghost use Rattle.nb_headers.specs.Outgoing.{intent_text, conversation, correlation, common, from_saga, timeout_mark, to_saga, to_saga_of, to_own, to_sender, addressee, outgoing};
+ghost use Rattle.nb_headers.specs.Outgoing.{intent_text, conversation, correlation, relations, origin, contents, common, from_saga, timeout_mark, to_saga, to_saga_of, to_own, to_sender, addressee, outgoing};
 
 use crate::made::{Made, SagaName};
 use crate::moments::moment_text;
@@ -47,46 +47,52 @@ fn correlation<'a>(incoming: &'a Envelope, made: &'a Made) -> &'a Text
     }
 }
 
+/// Says how the message hangs together with others.
+fn relate(
+    alloc: Global,
+    envelope: &mut Envelope,
+    incoming: &Envelope,
+    made: &Made,
+) -> Result<(), NoMemory>
+    ensures { OnOk result (envelope.new ≡ record envelope.old { headers = with_headers envelope.old.headers (relations incoming.now made.now) }) }
+{
+    let id = message_id(incoming);
+    let conversation = header_or(incoming, CONVERSATION_ID, id);
+    let correlation = correlation(incoming, made);
+    set(alloc, envelope, CONVERSATION_ID, conversation.as_str())?;
+    set(alloc, envelope, CORRELATION_ID, correlation.as_str())?;
+    set(alloc, envelope, RELATED_TO, id.as_str())
+}
+
+/// Names the endpoint that sends the message.
+fn name_origin(alloc: Global, envelope: &mut Envelope, endpoint: &str) -> Result<(), NoMemory>
+    ensures { OnOk result (envelope.new ≡ record envelope.old { headers = with_headers envelope.old.headers (origin endpoint.now) }) }
+{
+    set(alloc, envelope, ORIGINATING_ENDPOINT, endpoint)?;
+    set(alloc, envelope, REPLY_TO_ADDRESS, endpoint)
+}
+
+/// Says what the body is, and when it was sent.
+fn describe(alloc: Global, envelope: &mut Envelope, name: &str, time: &str) -> Result<(), NoMemory>
+    ensures { OnOk result (envelope.new ≡ record envelope.old { headers = with_headers envelope.old.headers (contents name.now time.now) }) }
+{
+    set(alloc, envelope, CONTENT_TYPE, "application/json")?;
+    set(alloc, envelope, ENCLOSED_MESSAGE_TYPES, name)?;
+    set(alloc, envelope, TIME_SENT, time)
+}
+
 /// The message with the headers that each outgoing message has.
 fn common(alloc: Global, incoming: &Envelope, made: &Made) -> Result<Envelope, NoMemory>
     requires { 0 < length made.now.id }
     ensures { IfOk result (λ e. e ≡ record { headers = common incoming.now made.now; body = made.now.body }) }
 {
-    let id = message_id(incoming);
-    let conversation = header_or(incoming, CONVERSATION_ID, id);
-    let correlation = correlation(incoming, made);
     let time = moment_text(alloc, made.moment)?;
     let body = made.body.copy()?;
     let mut envelope = Envelope::new(alloc, &made.id, body)?;
-    set(
-        alloc,
-        &mut envelope,
-        MESSAGE_INTENT,
-        intent_text(&made.target),
-    )?;
-    set(alloc, &mut envelope, CONVERSATION_ID, conversation.as_str())?;
-    set(alloc, &mut envelope, CORRELATION_ID, correlation.as_str())?;
-    set(alloc, &mut envelope, RELATED_TO, id.as_str())?;
-    set(
-        alloc,
-        &mut envelope,
-        ORIGINATING_ENDPOINT,
-        made.endpoint.as_str(),
-    )?;
-    set(
-        alloc,
-        &mut envelope,
-        REPLY_TO_ADDRESS,
-        made.endpoint.as_str(),
-    )?;
-    set(alloc, &mut envelope, CONTENT_TYPE, "application/json")?;
-    set(
-        alloc,
-        &mut envelope,
-        ENCLOSED_MESSAGE_TYPES,
-        made.name.as_str(),
-    )?;
-    set(alloc, &mut envelope, TIME_SENT, time.as_str())?;
+    set(alloc, &mut envelope, MESSAGE_INTENT, intent_text(&made.target))?;
+    relate(alloc, &mut envelope, incoming, made)?;
+    name_origin(alloc, &mut envelope, made.endpoint.as_str())?;
+    describe(alloc, &mut envelope, made.name.as_str(), time.as_str())?;
     Ok(envelope)
 }
 
