@@ -15,6 +15,7 @@ pub mod Ids
 pub mod Joining
 pub mod Looking
 pub mod Naming
+pub mod Pasts
 pub mod Placing
 pub mod Putting
 pub mod Recounting
