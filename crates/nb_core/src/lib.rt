@@ -9,13 +9,14 @@ mod history;
 mod phase;
 mod state;
 
-ghost use Rattle.std.specs.Prelude.{◌≡◌, List, [], ◌∷◌, ◌++◌};
+ghost use Rattle.std.specs.Prelude.{ℕ, false, ◌≡◌, List, [], ◌∷◌, ◌++◌};
 ghost use Rattle.nb_core.specs.After.{after, run};
-ghost use Rattle.nb_core.specs.History.{History, Run, opened, commits, batches};
+ghost use Rattle.nb_core.specs.History.{Opening, Run, commits, batches, from, opened};
 ghost use Rattle.nb_core.specs.Ids.{Ids};
-ghost use Rattle.nb_core.specs.Legal.{Legal, joined};
+ghost use Rattle.nb_core.specs.Legal.{IsOfWorker, IsWithin, Legal, halted, joined};
 ghost use Rattle.nb_core.specs.Once.{Once};
 ghost use Rattle.nb_base.specs.Meanings.{IsMeaning};
+ghost use Rattle.nb_base.specs.declared.entry.Which.{Which};
 ghost use Rattle.nb_core.specs.Earned.{Earned};
 ghost use Rattle.nb_core.specs.Facts.{StateFacts};
 ghost use Rattle.nb_core.specs.Pending.{Pending};
@@ -82,22 +83,28 @@ pub fn law_state()
     ensures { (c : Constants) (h : History) (s : State) → IsMeaning c.meaning → Legal c h s → StateFacts c s }
 {}
 
-/// Two legal histories, of which the second opens with the tables and the post in which the first ends, are one.
-pub fn law_runs()
-    ensures { (c : Constants) (first second : History) (s t : State) → Legal c first s → Legal c second t →
-        s.tables ≡ second.opening.tables → s.post ≡ second.opening.post → Legal c (joined first second) t }
-{}
+/// Two legal histories, of which the second opens with the tables and the post in which the first ends, are one, and
+/// within the Takes in which both are.
+pub fn law_runs(first: &History, second: &History)
+    ensures legal { (c : Constants) (s t : State) → Legal c first.now s → Legal c second.now t →
+        s.tables ≡ second.now.opening.tables → s.post ≡ second.now.opening.post → Legal c (joined first.now second.now) t }
+    ensures within { (turns : ℕ) → IsWithin turns first.now.events → IsWithin turns second.now.events →
+        IsWithin turns (joined first.now second.now).events }
+{
+}
 
-/// A legal run goes on by one step.
+/// A legal history whose last event isn't a Halt goes on by a step.
 pub fn law_more()
-    ensures { (c : Constants) (s mid t : State) (events : List Event) (event : Event) →
-        Run c s events mid → Step c mid event t → Run c s (events ++ event ∷ []) t }
+    ensures { (c : Constants) (o : Opening) (events : List Event) (s t : State) (event : Event) →
+        Legal c (from o events) s → halted events ≡ false → IsOfWorker o.workers event → Step c s event t →
+        Legal c (from o (events ++ event ∷ [])) t }
 {}
 
 /// A Halt at the end may be replaced by any step from there.
 pub fn law_halt()
-    ensures { (c : Constants) (o s t : State) (events : List Event) (store : _) (event : Event) →
-        Run c o (events ++ Halt store ∷ []) s → Step c s event t → Run c o (events ++ event ∷ []) t }
+    ensures { (c : Constants) (o : Opening) (events : List Event) (store : Which) (s t : State) (event : Event) →
+        Legal c (from o (events ++ Halt store ∷ [])) s → IsOfWorker o.workers event → Step c s event t →
+        Legal c (from o (events ++ event ∷ [])) t }
 {}
 
 /// An event leads to one state, which is the computed one.
