@@ -1,5 +1,5 @@
 use Rattle.nb_core.proofs.Joining.{legal_joined, joined_within}
-use Rattle.nb_core.proofs.law_runs.Goals as goal
+use Rattle.nb_core.proofs.laws.law_runs.Goals as goal
 
 pub returns-clause-legal : goal.returns-clause-legal
 returns-clause-legal k c s t a b tables post = legal_joined a b tables post

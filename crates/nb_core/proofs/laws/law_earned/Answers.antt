@@ -3,7 +3,7 @@ use Rattle.nb_core.proofs.Copies.{error_apart}
 use Rattle.nb_core.proofs.Earning.{earned}
 use Rattle.nb_core.proofs.Held.{phase_empty}
 use Rattle.nb_core.proofs.Serials.{kept_at_opening}
-use Rattle.nb_core.proofs.law_earned.Goals as goal
+use Rattle.nb_core.proofs.laws.law_earned.Goals as goal
 
 pub returns : goal.returns
 returns _ c h s legal =
