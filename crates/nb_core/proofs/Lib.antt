@@ -8,6 +8,7 @@ pub mod Counting
 pub mod Deciding
 pub mod Earning
 pub mod Facing
+pub mod Finishing
 pub mod Firsts
 pub mod Frees
 pub mod Held

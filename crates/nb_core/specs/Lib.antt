@@ -7,6 +7,8 @@ pub mod History
 pub mod Ids
 pub mod Legal
 pub mod Once
+pub mod Outcome
+pub mod Paced
 pub mod Past
 pub mod Pending
 pub mod Placed

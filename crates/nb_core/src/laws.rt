@@ -7,7 +7,9 @@ ghost use Rattle.nb_core.specs.Legal.{IsOfWorker, IsWithin, Legal, halted, joine
 ghost use Rattle.nb_core.specs.Once.{Once};
 ghost use Rattle.nb_base.specs.Meanings.{IsMeaning};
 ghost use Rattle.nb_base.specs.declared.entry.Which.{Which};
+ghost use Rattle.nb_core.specs.Drained.{Drained};
 ghost use Rattle.nb_core.specs.Earned.{Earned};
+ghost use Rattle.nb_core.specs.Outcome.{AreSent, Outcome};
 ghost use Rattle.nb_core.specs.Facts.{StateFacts};
 ghost use Rattle.nb_core.specs.Pending.{Pending};
 ghost use Rattle.nb_core.specs.Placed.{Placed};
@@ -99,4 +101,23 @@ pub fn law_after()
 /// And so does a list of events.
 pub fn law_run()
     ensures { (c : Constants) (s t : State) (events : List Event) → Run c s events t → t ≡ run c s events }
+{}
+
+/// All that a legal history comes to.
+pub fn law_outcome()
+    ensures { (c : Constants) (h : History) (s : State) → IsMeaning c.meaning → (legal : Legal c h s) → Outcome legal.run }
+{
+    law_serial();
+    law_once();
+    law_placed();
+    law_earned();
+    law_sent();
+    law_pending();
+    law_ids();
+}
+
+/// In a drained state every record is sent that was committed since the last Stop, and every older one whose message was
+/// still there then, undelayed or due by now.
+pub fn law_drained()
+    ensures { (c : Constants) (h : History) (s : State) (until : ℕ) → (legal : Legal c h s) → Drained c s until → AreSent legal.run until }
 {}

@@ -16,8 +16,8 @@ pub use desk::{Desk, make};
 pub use event::{Event, Events};
 pub use history::{History, Opening};
 pub use laws::{
-    law_after, law_earned, law_facts, law_halt, law_ids, law_more, law_once, law_pending, law_placed,
-    law_run, law_runs, law_sent, law_serial, law_state,
+    law_after, law_drained, law_earned, law_facts, law_halt, law_ids, law_more, law_once, law_outcome,
+    law_pending, law_placed, law_run, law_runs, law_sent, law_serial, law_state,
 };
 pub use phase::Phase;
 pub use state::State;
