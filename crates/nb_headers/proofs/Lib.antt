@@ -1,3 +1,5 @@
 pub mod Digits
 pub mod Entries
+pub mod HeaderFacts
+pub mod OutgoingLaws
 pub mod Walks

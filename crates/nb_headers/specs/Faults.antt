@@ -16,18 +16,18 @@ without_headers hs [] = hs
 without_headers hs (name ∷ names) = without_headers (without_header hs name) names
 
 -- where and when a message failed, and the fault's name and text
-abbrev pub fault_pairs : Settings → List ℕ → List ℕ → ℕ → Pairs
-fault_pairs settings name text moment =
-    (failed_q, settings.endpoint)
-    ∷ (time_of_failure, moment_text moment)
-    ∷ (processing_endpoint, settings.endpoint)
+abbrev pub fault_pairs : List ℕ → List ℕ → List ℕ → List ℕ → Pairs
+fault_pairs endpoint time name text =
+    (failed_q, endpoint)
+    ∷ (time_of_failure, time)
+    ∷ (processing_endpoint, endpoint)
     ∷ (exception_type, name)
     ∷ (exception_message, text)
     ∷ []
 
 -- the message that failed at this moment by a fault of this name and text
 unfoldable pub with_fault : Settings → List ℕ → List ℕ → ℕ → Message → Message
-with_fault settings name text moment m = record m { headers = with_headers m.headers (fault_pairs settings name text moment) }
+with_fault settings name text moment m = record m { headers = with_headers m.headers (fault_pairs settings.endpoint (moment_text moment) name text) }
 
 -- what a message gets when it fails or is retried
 abbrev pub failure_names : List (List ℕ)

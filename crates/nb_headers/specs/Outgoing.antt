@@ -1,5 +1,5 @@
 -- The headers of an outgoing message: what ties it to the message during whose handling it is sent.
-use Rattle.std.specs.Prelude.{ℕ, List, [], ◌∷◌, ◌++◌, ◌&&◌, is_some, if◌then◌else◌, Option, Some, None, codes}
+use Rattle.std.specs.Prelude.{ℕ, List, [], ◌∷◌, ◌++◌, Option, Some, None, codes}
 use Rattle.nb_base.specs.Messages.{Message, Pairs, header, id_name}
 use Rattle.nb_base.specs.declared.plan.Target.{Target}
 use Rattle.nb_base.specs.declared.plan.Target.TheVariants.{Send, Local, Publish, Reply, Originator, Timeout}
@@ -32,20 +32,30 @@ correlation incoming (Reply to) id = header_or incoming correlation_id (id_of in
 correlation incoming (Originator to original) id = original
 correlation incoming Timeout id = id
 
+-- how the message hangs together with others
+abbrev pub relations : Message → Made → Pairs
+relations incoming made =
+    (conversation_id, conversation incoming)
+    ∷ (correlation_id, correlation incoming made.target made.id)
+    ∷ (related_to, id_of incoming)
+    ∷ []
+
+-- the endpoint that sends it, which takes the replies too
+abbrev pub origin : List ℕ → Pairs
+origin endpoint = (originating_endpoint, endpoint) ∷ (reply_to_address, endpoint) ∷ []
+
+-- what the body is, and when it was sent
+abbrev pub contents : List ℕ → List ℕ → Pairs
+contents name time = (content_type, codes "application/json") ∷ (enclosed_message_types, name) ∷ (time_sent, time) ∷ []
+
 -- the headers that each outgoing message has
 abbrev pub common : Message → Made → Pairs
 common incoming made =
     (id_name, made.id)
     ∷ (message_intent, intent_text made.target)
-    ∷ (conversation_id, conversation incoming)
-    ∷ (correlation_id, correlation incoming made.target made.id)
-    ∷ (related_to, id_of incoming)
-    ∷ (originating_endpoint, made.endpoint)
-    ∷ (reply_to_address, made.endpoint)
-    ∷ (content_type, codes "application/json")
-    ∷ (enclosed_message_types, made.name)
-    ∷ (time_sent, moment_text made.moment)
-    ∷ []
+    ∷ relations incoming made
+    ++ origin made.endpoint
+    ++ contents made.name (moment_text made.moment)
 
 -- the saga that sends the message
 abbrev pub from_saga : Option SagaName → Pairs
@@ -68,12 +78,16 @@ abbrev pub to_own : Option SagaName → Pairs
 to_own None = []
 to_own (Some saga) = to_saga saga.saga saga.id
 
+-- a saga of which both the type and the id are there
+abbrev pub to_saga_of : Option (List ℕ) → Option (List ℕ) → Pairs
+to_saga_of None None = []
+to_saga_of None (Some id) = []
+to_saga_of (Some type) None = []
+to_saga_of (Some type) (Some id) = to_saga type id
+
 -- the saga that sent the incoming message, where that message says both its id and its type
 abbrev pub to_sender : Message → Pairs
-to_sender incoming =
-    if is_some (header incoming.headers originating_saga_id) && is_some (header incoming.headers originating_saga_type)
-    then to_saga (header_or incoming originating_saga_type []) (header_or incoming originating_saga_id [])
-    else []
+to_sender incoming = to_saga_of (header incoming.headers originating_saga_type) (header incoming.headers originating_saga_id)
 
 -- A timeout goes to the saga that asked for it, and a reply to the one that sent the incoming message.
 abbrev pub addressee : Message → Target → Option SagaName → Pairs

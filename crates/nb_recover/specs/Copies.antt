@@ -11,13 +11,13 @@ use Rattle.nb_recover.specs.Fails.{name_of, text_of}
 use Rattle.nb_recover.specs.declared.fail.Fail.{Fail}
 use Rattle.nb_recover.specs.declared.returned.Returned.{Returned}
 
--- the round of delayed retries that begins at this moment
-abbrev pub retry_pairs : ℕ → ℕ → Pairs
-retry_pairs round moment = (retries, decimal round) ∷ (retries_timestamp, moment_text moment) ∷ []
+-- a round of delayed retries, and when it began
+abbrev pub retry_pairs : List ℕ → List ℕ → Pairs
+retry_pairs round time = (retries, round) ∷ (retries_timestamp, time) ∷ []
 
--- the copy that is tried again in this round
+-- the copy that is tried again in this round, which begins at this moment
 unfoldable pub later_copy : Message → ℕ → ℕ → Message
-later_copy m round moment = record m { headers = with_headers m.headers (retry_pairs round moment) }
+later_copy m round moment = record m { headers = with_headers m.headers (retry_pairs (decimal round) (moment_text moment)) }
 
 -- the copy for the error queue
 unfoldable pub error_copy : Settings → Message → Fail → ℕ → Message

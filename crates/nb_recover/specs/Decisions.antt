@@ -1,5 +1,5 @@
 -- What is done with a message that failed.
-use Rattle.std.specs.Prelude.{ℕ, ◌+◌, ◌*◌, List, [], ◌∷◌, Bool, bytes_eq, nat_le, nat_lt, if◌then◌else◌, Option, Some, None}
+use Rattle.std.specs.Prelude.{ℕ, ◌+◌, ◌*◌, List, Bool, bytes_eq, nat_le, nat_lt, if◌then◌else◌, Option, Some, None, option_map, find}
 use Rattle.nb_base.specs.declared.route.Action.{Action}
 use Rattle.nb_base.specs.declared.route.Action.TheVariants as action
 use Rattle.nb_base.specs.declared.route.Policy.{Policy}
@@ -9,8 +9,7 @@ use Rattle.nb_recover.specs.declared.moves.Move.TheVariants.{Again, Later, Error
 
 -- the action that the policies have for the faults of this name
 abbrev pub policy_of : List Policy → List ℕ → Option Action
-policy_of [] name = None
-policy_of (p ∷ ps) name = if bytes_eq name p.name then Some p.action else policy_of ps name
+policy_of policies name = option_map (λ (p : Policy). p.action) (find (λ (p : Policy). bytes_eq name p.name) policies)
 
 -- a round of delayed retries, each longer than the one before, while there is one
 abbrev pub delayed_retry : Settings → ℕ → Move

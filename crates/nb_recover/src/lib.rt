@@ -2,10 +2,16 @@
 //! back from there.
 #![tactic(auto)]
 
+mod copies;
+mod decision;
 mod fail;
 mod moves;
 mod returned;
+mod texts;
 
+pub use copies::{error_copy, later_copy, return_copy};
+pub use decision::decide;
 pub use fail::Fail;
 pub use moves::Move;
 pub use returned::Returned;
+pub use texts::{json_text, value_text};
