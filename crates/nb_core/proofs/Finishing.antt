@@ -1,5 +1,5 @@
 -- In a drained state the records are sent.
-use Rattle.std.proofs.Common.{◌≡◌, ◌⊎◌, ◌≤◌, ◌<◌, ℕ, Bool, true, false, Some, None, Option, refl, sym, ap, ◌∙◌, ⊎_elim, subst, arith, List}
+use Rattle.std.proofs.Common.{◌≡◌, ◌⊎◌, ◌≤◌, ℕ, Bool, true, false, Some, None, Option, refl, ◌∙◌, ⊎_elim, arith, List}
 use Rattle.std.specs.FinMap as map
 use Rattle.nb_base.specs.declared.entry.OutboxRow.{OutboxRow}
 use Rattle.nb_base.specs.declared.tables.Queued.{Queued}
@@ -8,9 +8,9 @@ use Rattle.nb_core.proofs.Waiting.{WaitingAt}
 use Rattle.nb_core.specs.Drained.{Drained}
 use Rattle.nb_core.specs.History.{Run}
 use Rattle.nb_core.specs.Outcome.{AreSent}
-use Rattle.nb_core.specs.Pending.{Since, since_first, Leads, StillThere}
+use Rattle.nb_core.specs.Pending.{Since, since_first, Leads}
 use Rattle.nb_core.specs.RunFacts.{since_at_end}
-use Rattle.nb_core.specs.State.{State, Constants, recorded}
+use Rattle.nb_core.specs.State.{State, Constants}
 use Rattle.nb_core.specs.Step.{Event}
 
 sent_or : (r : OutboxRow) → (r.sent ≡ false → ⊥) → r.sent ≡ true

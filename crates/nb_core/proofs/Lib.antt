@@ -14,8 +14,10 @@ pub mod Frees
 pub mod Held
 pub mod Ids
 pub mod Joining
+pub mod Least
 pub mod Looking
 pub mod Naming
+pub mod Pacing
 pub mod Pasts
 pub mod Placing
 pub mod Putting

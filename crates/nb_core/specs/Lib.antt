@@ -1,5 +1,6 @@
 pub mod After
 pub mod Calls
+pub mod Conflicts
 pub mod Drained
 pub mod Earned
 pub mod Facts

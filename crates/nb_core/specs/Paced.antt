@@ -56,3 +56,9 @@ pub data Pace (c : Constants) (until : ℕ) : Mode → State → List Event → 
 
 abbrev pub Paced : Constants → ℕ → History → Type 0
 Paced c until h = Pace c until loading (opened h.opening) h.events
+
+-- the messages of the Loads, in order
+abbrev pub loads : List Event → List Message
+loads [] = []
+loads (Load m ∷ es) = m ∷ loads es
+loads (e ∷ es) = loads es

@@ -1,9 +1,11 @@
 //! The laws of legal histories. Each is the contract of a function that does nothing.
-ghost use Rattle.std.specs.Prelude.{ℕ, false, ◌≡◌, List, [], ◌∷◌, ◌++◌};
+ghost use Rattle.std.specs.Prelude.{ℕ, false, ◌≡◌, ◌≤◌, List, [], ◌∷◌, ◌++◌};
 ghost use Rattle.nb_core.specs.After.{after, run};
 ghost use Rattle.nb_core.specs.History.{Opening, Run, commits, batches, from, opened};
 ghost use Rattle.nb_core.specs.Ids.{Ids};
-ghost use Rattle.nb_core.specs.Legal.{IsOfWorker, IsWithin, Legal, halted, joined};
+ghost use Rattle.std.specs.List.{AllByRecursion};
+ghost use Rattle.nb_core.specs.Legal.{IsOfWorker, IsWithin, Legal, halted, is_halt, joined};
+ghost use Rattle.nb_core.specs.Paced.{Paced, loads};
 ghost use Rattle.nb_core.specs.Once.{Once};
 ghost use Rattle.nb_base.specs.Meanings.{IsMeaning};
 ghost use Rattle.nb_base.specs.declared.entry.Which.{Which};
@@ -76,8 +78,7 @@ pub fn law_runs(first: &History, second: &History)
         s.tables ≡ second.now.opening.tables → s.post ≡ second.now.opening.post → Legal c (joined first.now second.now) t }
     ensures within { (turns : ℕ) → IsWithin turns first.now.events → IsWithin turns second.now.events →
         IsWithin turns (joined first.now second.now).events }
-{
-}
+{}
 
 /// A legal history whose last event isn't a Halt goes on by a step.
 pub fn law_more()
@@ -120,4 +121,14 @@ pub fn law_outcome()
 /// still there then, undelayed or due by now.
 pub fn law_drained()
     ensures { (c : Constants) (h : History) (s : State) (until : ℕ) → (legal : Legal c h s) → Drained c s until → AreSent legal.run until }
+{}
+
+/// With one worker a legal history in the pace of a drain that ends drained, without a Halt, is determined by its opening,
+/// its Loads and the moment until which it drains.
+pub fn law_paced()
+    ensures { (c : Constants) (o : Opening) (until : ℕ) (first second : List Event) (s t : State) →
+        o.workers ≡ 1 → o.moment ≤ until → Legal c (from o first) s → Legal c (from o second) t →
+        Paced c until (from o first) → Paced c until (from o second) →
+        AllByRecursion (λ e. is_halt e ≡ false) first → AllByRecursion (λ e. is_halt e ≡ false) second →
+        Drained c s until → Drained c t until → loads first ≡ loads second → first ≡ second }
 {}

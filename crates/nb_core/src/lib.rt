@@ -8,6 +8,8 @@ mod event;
 mod history;
 mod laws;
 mod phase;
+mod phases;
+mod staleness;
 mod state;
 
 pub use answers::{DeskFault, Look, Settled, Taken};
@@ -16,8 +18,14 @@ pub use desk::{Desk, make};
 pub use event::{Event, Events};
 pub use history::{History, Opening};
 pub use laws::{
-    law_after, law_drained, law_earned, law_facts, law_halt, law_ids, law_more, law_once, law_outcome,
-    law_pending, law_placed, law_run, law_runs, law_sent, law_serial, law_state,
+    law_after, law_drained, law_earned, law_facts, law_halt, law_ids, law_more, law_once,
+    law_outcome, law_paced, law_pending, law_placed, law_run, law_runs, law_sent, law_serial,
+    law_state,
 };
 pub use phase::Phase;
+pub use phases::{move_after, phase_after, phase_by};
+pub use staleness::{conflict, version};
 pub use state::State;
+
+#[cfg(test)]
+mod tests;
