@@ -69,7 +69,7 @@ later_round m round moment few =
 
 fault_header : (settings : Settings) (name text : List ℕ) (moment : ℕ) (m : Message) (q : List ℕ)
     → bytes_eq q failed_q ≡ false → bytes_eq q time_of_failure ≡ false → bytes_eq q processing_endpoint ≡ false → bytes_eq q exception_type ≡ false → bytes_eq q exception_message ≡ false
-    → header (with_headers m.headers (fault_pairs settings name text moment)) q ≡ header m.headers q
+    → header (with_headers m.headers (fault_pairs settings.endpoint (moment_text moment) name text)) q ≡ header m.headers q
 fault_header settings name text moment m q a b c d e =
     let h1 = with_header m.headers failed_q settings.endpoint in
     let h2 = with_header h1 time_of_failure (moment_text moment) in

@@ -8,13 +8,17 @@ pub mod Counting
 pub mod Deciding
 pub mod Earning
 pub mod Facing
+pub mod Finishing
 pub mod Firsts
 pub mod Frees
 pub mod Held
 pub mod Ids
 pub mod Joining
+pub mod Least
 pub mod Looking
 pub mod Naming
+pub mod Pacing
+pub mod Pasts
 pub mod Placing
 pub mod Putting
 pub mod Recounting

@@ -51,3 +51,7 @@ batches (goes step rest) = batch_by step ++ batches rest
 abbrev pub discards : {c : Constants} {s s' : State} {es : List Event} → Run c s es s' → List Discard
 discards ends = []
 discards (goes step rest) = discard_by step ++ discards rest
+
+-- these events, from this opening on
+abbrev pub from : Opening → List Event → History
+from o events = record { opening = o; events = events }

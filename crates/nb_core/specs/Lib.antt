@@ -1,5 +1,6 @@
 pub mod After
 pub mod Calls
+pub mod Conflicts
 pub mod Drained
 pub mod Earned
 pub mod Facts
@@ -7,6 +8,8 @@ pub mod History
 pub mod Ids
 pub mod Legal
 pub mod Once
+pub mod Outcome
+pub mod Paced
 pub mod Past
 pub mod Pending
 pub mod Placed

@@ -6,106 +6,26 @@ mod call;
 mod desk;
 mod event;
 mod history;
+mod laws;
 mod phase;
+mod phases;
+mod staleness;
 mod state;
-
-ghost use Rattle.std.specs.Prelude.{◌≡◌, List, [], ◌∷◌, ◌++◌};
-ghost use Rattle.nb_core.specs.After.{after, run};
-ghost use Rattle.nb_core.specs.History.{History, Run, opened, commits, batches};
-ghost use Rattle.nb_core.specs.Ids.{Ids};
-ghost use Rattle.nb_core.specs.Legal.{Legal, joined};
-ghost use Rattle.nb_core.specs.Once.{Once};
-ghost use Rattle.nb_base.specs.Meanings.{IsMeaning};
-ghost use Rattle.nb_core.specs.Earned.{Earned};
-ghost use Rattle.nb_core.specs.Facts.{StateFacts};
-ghost use Rattle.nb_core.specs.Pending.{Pending};
-ghost use Rattle.nb_core.specs.Placed.{Placed};
-ghost use Rattle.nb_core.specs.RunFacts.{Facts};
-ghost use Rattle.nb_core.specs.Sent.{Sent};
-ghost use Rattle.nb_core.specs.Serve.{Serial};
-ghost use Rattle.nb_core.specs.State.{Constants, State, base};
-ghost use Rattle.nb_core.specs.Step.{Event, Halt, Step};
 
 pub use answers::{DeskFault, Look, Settled, Taken};
 pub use call::{Answer, Call};
 pub use desk::{Desk, make};
 pub use event::{Event, Events};
 pub use history::{History, Opening};
+pub use laws::{
+    law_after, law_drained, law_earned, law_facts, law_halt, law_ids, law_more, law_once,
+    law_outcome, law_paced, law_pending, law_placed, law_run, law_runs, law_sent, law_serial,
+    law_state,
+};
 pub use phase::Phase;
+pub use phases::{move_after, phase_after, phase_by};
+pub use staleness::{conflict, version};
 pub use state::State;
 
-/// The sagas, the rows and the commits at the end of a legal history, and the batches that it recorded, are those of
-/// handling each committed message, one after the other, in commit order.
-pub fn law_serial()
-    ensures { (c : Constants) (h : History) (s : State) → IsMeaning c.meaning → (legal : Legal c h s) →
-        Serial c.meaning c.settings (base (opened h.opening)) (commits legal.run) (base s) (batches legal.run) }
-{}
-
-/// Between two commits of one id there is a purge of it, no earlier than the retention after the first.
-pub fn law_once()
-    ensures { (c : Constants) (h : History) (s : State) → (legal : Legal c h s) → Once legal.run }
-{}
-
-/// Whatever stood in the own queue, delayed or not, is there, was handled or given up, or is in error.
-pub fn law_placed()
-    ensures { (c : Constants) (h : History) (s : State) → (legal : Legal c h s) → Placed legal.run }
-{}
-
-/// A message goes to the error queue only after every configured attempt failed, by an unrecoverable fault, or by a
-/// policy.
-pub fn law_earned()
-    ensures { (c : Constants) (h : History) (s : State) → (legal : Legal c h s) → Earned legal.run }
-{}
-
-/// What is sent is what was recorded, and all of it before the record is marked.
-pub fn law_sent()
-    ensures { (c : Constants) (h : History) (s : State) → (legal : Legal c h s) → Sent legal.run }
-{}
-
-/// While a record isn't sent, the entries that lead to its sending stay.
-pub fn law_pending()
-    ensures { (c : Constants) (h : History) (s : State) → (legal : Legal c h s) → Pending legal.run }
-{}
-
-/// What holds at the end of a legal history of what came before: what each phase says of its entry, and each count.
-pub fn law_facts()
-    ensures { (c : Constants) (h : History) (s : State) → IsMeaning c.meaning → (legal : Legal c h s) → Facts legal.run }
-{}
-
-/// No id is given to two messages or to two sagas, and no saga gets one that a saga had at the opening.
-pub fn law_ids()
-    ensures { (c : Constants) (h : History) (s : State) → IsMeaning c.meaning → (legal : Legal c h s) → Ids legal.run }
-{}
-
-/// What each state of a legal history keeps: sound stores, and what the phases say.
-pub fn law_state()
-    ensures { (c : Constants) (h : History) (s : State) → IsMeaning c.meaning → Legal c h s → StateFacts c s }
-{}
-
-/// Two legal histories, of which the second opens with the tables and the post in which the first ends, are one.
-pub fn law_runs()
-    ensures { (c : Constants) (first second : History) (s t : State) → Legal c first s → Legal c second t →
-        s.tables ≡ second.opening.tables → s.post ≡ second.opening.post → Legal c (joined first second) t }
-{}
-
-/// A legal run goes on by one step.
-pub fn law_more()
-    ensures { (c : Constants) (s mid t : State) (events : List Event) (event : Event) →
-        Run c s events mid → Step c mid event t → Run c s (events ++ event ∷ []) t }
-{}
-
-/// A Halt at the end may be replaced by any step from there.
-pub fn law_halt()
-    ensures { (c : Constants) (o s t : State) (events : List Event) (store : _) (event : Event) →
-        Run c o (events ++ Halt store ∷ []) s → Step c s event t → Run c o (events ++ event ∷ []) t }
-{}
-
-/// An event leads to one state, which is the computed one.
-pub fn law_after()
-    ensures { (c : Constants) (s t : State) (event : Event) → Step c s event t → t ≡ after c s event }
-{}
-
-/// And so does a list of events.
-pub fn law_run()
-    ensures { (c : Constants) (s t : State) (events : List Event) → Run c s events t → t ≡ run c s events }
-{}
+#[cfg(test)]
+mod tests;

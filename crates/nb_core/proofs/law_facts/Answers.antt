@@ -1,5 +1,0 @@
-use Rattle.nb_core.proofs.Facing.{facts}
-use Rattle.nb_core.proofs.law_facts.Goals as goal
-
-pub returns : goal.returns
-returns _ c h s means legal = facts means legal.sound legal.run
