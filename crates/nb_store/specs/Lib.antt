@@ -1,0 +1,4 @@
+pub mod Applied
+pub mod CellMaps
+pub mod Kept
+pub mod Calls
