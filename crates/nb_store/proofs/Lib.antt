@@ -1,3 +1,4 @@
 pub mod SeenLaws
 pub mod ChangeLaws
 pub mod KeptLaws
+pub mod IdLaws

@@ -2,3 +2,5 @@ pub mod Applied
 pub mod CellMaps
 pub mod Kept
 pub mod Calls
+pub mod Ids
+pub mod Opening

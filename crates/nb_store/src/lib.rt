@@ -4,7 +4,9 @@
 mod apply;
 mod changes;
 mod fault;
+mod id;
 mod kept;
+mod parts;
 mod store;
 
 pub use fault::StoreFault;
