@@ -2,3 +2,4 @@ pub mod SeenLaws
 pub mod ChangeLaws
 pub mod KeptLaws
 pub mod IdLaws
+pub mod OpenLaws

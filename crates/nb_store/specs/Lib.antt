@@ -4,3 +4,5 @@ pub mod Kept
 pub mod Calls
 pub mod Ids
 pub mod Opening
+pub mod Counts
+pub mod Scanning

@@ -129,3 +129,19 @@ IsDamaged c Failed = ⊥
 IsDamaged c (Damaged space key) = (space ≡ c.space) × (key ≡ c.key)
 IsDamaged c Spent = ⊥
 IsDamaged c NoMemory = Unit {0}
+
+-- a part that was read of a cell is added
+abbrev pub AddsPart : {T : Type 0} → Parts → Part → Cell → Parts → Result T StoreFault → Type 0
+AddsPart p part c q (Ok x) = IsOpen q × Fits p.tables part × (q.tables ≡ with_part p.tables part)
+AddsPart p part c q (Err Failed) = ⊥
+AddsPart p part c q (Err (Damaged space key)) = (Fits p.tables part → ⊥) × (space ≡ c.space) × (key ≡ c.key)
+AddsPart p part c q (Err Spent) = ⊥
+AddsPart p part c q (Err NoMemory) = Unit {0}
+
+-- cells were read, one after the other
+abbrev pub ReadsCells : {T : Type 0} → Parts → List Cell → Parts → Result T StoreFault → Type 0
+ReadsCells p cs q (Ok x) = IsOpen q × Joins cs p.tables q.tables
+ReadsCells p cs q (Err Failed) = ⊥
+ReadsCells p cs q (Err (Damaged space key)) = IsFirstFault cs p.tables space key
+ReadsCells p cs q (Err Spent) = ⊥
+ReadsCells p cs q (Err NoMemory) = Unit {0}

@@ -3,7 +3,9 @@ ghost use Rattle.std.specs.Prelude.{◌≡◌, IfOk, Some, option_copied};
 ghost use Rattle.std.specs.FinMap as map;
 ghost use Rattle.nb_base.specs.Shown.{stored, shown, seen, saga_seen, row_seen, with_id};
 ghost use Rattle.nb_base.specs.Sound.{IsSoundTables};
+ghost use Rattle.nb_store.specs.Opening.{IsOpen};
 
+use crate::parts::Parts;
 use nb_base::{
     ByName, Copied, Items, Key, Keys, NoMemory, OutboxRow, Read, Reads, Row, SagaKey, SagaRow, Seen,
     Tables, Text, Value,
@@ -57,6 +59,15 @@ fn seen_row(row: Option<&Row>) -> Seen
 }
 
 impl Kept {
+    /// The tables whose cells were read.
+    pub fn of_parts(parts: Parts) -> Kept
+        requires { IsOpen parts }
+        ensures { result ≡ parts.tables }
+    {
+        let Parts { tables, ids, .. } = parts;
+        Kept { tables, ids }
+    }
+
     /// The record of a message.
     pub fn record(&self, id: &Text) -> Option<&OutboxRow>
         ensures { option_copied result ≡ map.get self.now.outbox id.now }

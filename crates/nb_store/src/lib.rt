@@ -7,7 +7,8 @@ mod fault;
 mod id;
 mod kept;
 mod parts;
+mod scan;
 mod store;
 
 pub use fault::StoreFault;
-pub use store::{Store, StoreClosed};
+pub use store::{Store, StoreClosed, StoreRefusal};

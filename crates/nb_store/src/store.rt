@@ -1,16 +1,22 @@
 //! The tables over a store of cells.
-ghost use Rattle.std.specs.Prelude.{◌≡◌, IfOk, Some, MatchResult, is_ok, true, if◌then◌else◌, option_copied};
+ghost use Rattle.std.specs.Prelude.{◌≡◌, ◌≢◌, ◌≤◌, IfOk, IfErr, Some, MatchResult, is_ok, true, if◌then◌else◌, option_copied};
 ghost use Rattle.std.specs.FinMap as map;
 ghost use Rattle.nb_base.specs.Shown.{stored, seen};
 ghost use Rattle.nb_base.specs.Sound.{IsSoundTables};
 ghost use Rattle.nb_base.specs.declared.entry.OutboxRow.{OutboxRow};
 ghost use Rattle.nb_store.specs.Applied.{Applied, IsCounted, IsOfApply};
+ghost use Rattle.nb_base.specs.Causes.{Rose};
+ghost use Rattle.nb_cells.specs.Cells.{CellMap};
 ghost use Rattle.nb_store.specs.Calls.{purged};
+ghost use Rattle.nb_store.specs.Scanning.{ScansAll, Opens, Refuses};
+ghost use Rattle.nb_store.specs.declared.fault.StoreFault.TheVariants.{Failed};
 
 use crate::apply::apply;
 use crate::changes::erase_record;
 use crate::fault::StoreFault;
 use crate::kept::Kept;
+use crate::parts::{Parts, Scanned};
+use crate::scan::scan_all;
 use nb_base::{Copied, Keys, NoMemory, OutboxRow, Reads, Tables, Text};
 use nb_cells::Cells;
 use std::alloc::Global;
@@ -29,7 +35,56 @@ pub struct StoreClosed<D> {
     pub tables: Tables,
 }
 
+/// Why tables can't be opened, and the store of cells.
+#[derive(Drop)]
+pub struct StoreRefusal<D> {
+    pub fault: StoreFault,
+    pub base: D,
+}
+
+/// The tables whose cells the store has.
+fn open<D: Cells>(alloc: Global, base: &mut D) -> Result<Kept, StoreFault>
+    ensures honest_before { D.honest base.new → D.honest base.old }
+    ensures kept_firm { D.honest base.new → D.firm base.old → D.firm base.new }
+    ensures kept { (m : CellMap) → D.honest base.new → D.firm base.old → D.now base.old m → D.now base.new m }
+    ensures images { (n : CellMap) → D.honest base.new → D.images base.new n → D.images base.old n }
+    ensures opened { (m : CellMap) → D.honest base.new → D.firm base.old → D.now base.old m → MatchResult result (Opens m) (Refuses m) }
+    ensures cause { IsCounted (D.count base.old) (D.count base.new) result }
+{
+    let cells = scan_all(alloc, base)?;
+    read_cells(alloc, &cells)
+}
+
+/// The tables for which the cells stand.
+fn read_cells(alloc: Global, cells: &Scanned) -> Result<Kept, StoreFault>
+    ensures opened { (m : CellMap) → ScansAll m cells.now → MatchResult result (Opens m) (Refuses m) }
+    ensures answers { IfErr result (λ e. e ≢ Failed) }
+{
+    let mut parts = Parts::new(alloc);
+    match parts.join_spaces(alloc, cells) {
+        Ok(()) => Ok(Kept::of_parts(parts)),
+        Err(fault) => Err(fault),
+    }
+}
+
 impl<D: Cells> Store<D> {
+    /// The tables whose cells the store has. It is handed back where it is refused.
+    pub fn start(alloc: Global, base: D) -> Result<Store<D>, StoreRefusal<D>>
+        ensures honest_before { MatchResult result (λ s. D.honest s.base → D.honest base) (λ r. D.honest r.base → D.honest base) }
+        ensures kept_firm { MatchResult result (λ s. D.honest s.base → D.firm base → D.firm s.base) (λ r. D.honest r.base → D.firm base → D.firm r.base) }
+        ensures kept { (m : CellMap) → MatchResult result (λ s. D.honest s.base → D.firm base → D.now base m → D.now s.base m) (λ r. D.honest r.base → D.firm base → D.now base m → D.now r.base m) }
+        ensures images { (n : CellMap) → MatchResult result (λ s. D.honest s.base → D.images s.base n → D.images base n) (λ r. D.honest r.base → D.images r.base n → D.images base n) }
+        ensures opened { (m : CellMap) → MatchResult result (λ s. D.honest s.base → D.firm base → D.now base m → Opens m s.tables) (λ r. D.honest r.base → D.firm base → D.now base m → Refuses m r.fault) }
+        ensures later { MatchResult result (λ s. D.count base ≤ D.count s.base) (λ r. D.count base ≤ D.count r.base) }
+        ensures failed { IfErr result (λ r. r.fault ≡ Failed → Rose (D.count base) (D.count r.base)) }
+    {
+        let mut base = base;
+        match open(alloc, &mut base) {
+            Ok(tables) => Ok(Store { base, tables }),
+            Err(fault) => Err(StoreRefusal { fault, base }),
+        }
+    }
+
     /// Each key with what stands there. No call of the store of cells is made.
     pub fn read(&self, alloc: Global, keys: &Keys) -> Result<Reads, NoMemory>
         ensures { IfOk result (λ reads. reads ≡ seen (stored self.now.tables) keys.now) }
