@@ -1,6 +1,6 @@
 -- The spelling and the reading of records.
-use Rattle.std.specs.Prelude.{◌≡◌, ◌≢◌, ◌≤◌, ◌<◌, ◌^◌, ◌==◌, ◌&&◌, ℕ, List, [], ◌∷◌, ◌++◌, length, Bool, true, false, not, cond, nat_lt, Option, Some, None, refl}
-use Rattle.std.proofs.Common.{◌∙◌, ap, sym, subst, arith, append_assoc, true≢false, ltb-true, lt-ltb}
+use Rattle.std.specs.Prelude.{◌≡◌, ◌≢◌, ◌==◌, ℕ, List, [], ◌∷◌, ◌++◌, length, Bool, true, false, not, cond, nat_lt, Option, Some, None, refl}
+use Rattle.std.proofs.Common.{◌∙◌, ap, sym, subst, arith, append_assoc, true≢false, lt-ltb}
 use Rattle.std.proofs.lemmas.Bool.{eqb-true}
 use Rattle.std.specs.List.{AllByRecursion}
 use Rattle.nb_base.specs.Messages.{Message}
@@ -8,7 +8,7 @@ use Rattle.nb_base.specs.declared.entry.Op.{Op}
 use Rattle.nb_base.specs.declared.entry.OutboxRow.{OutboxRow}
 use Rattle.nb_envelope.specs.Spelling.{spelled_u64, spelled_flag, spelled_text, spelled_due, spelled_list, spelled_envelope, IsList}
 use Rattle.nb_envelope.specs.Cells.{◌>>=◌, u64_in, flag_in, text_in, moment_in, due_in, list_in, envelope_in}
-use Rattle.nb_envelope.specs.Formats.{IsBytes, IsFormat, NoneBegins}
+use Rattle.nb_envelope.specs.Formats.{IsBytes, IsFormat}
 use Rattle.nb_envelope.proofs.FormatLaws.{Found, IsBytes-rest, bind_some, test_some, format_u64, format_flag, format_text, format_list}
 use Rattle.nb_envelope.proofs.ValueLaws.{format_due, format_moment}
 use Rattle.nb_envelope.proofs.EnvelopeLaws.{format_envelope}

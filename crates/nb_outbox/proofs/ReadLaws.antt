@@ -1,11 +1,11 @@
 -- Whole cells of records.
-use Rattle.std.specs.Prelude.{◌≡◌, ◌≢◌, ◌<◌, ◌≤◌, ◌^◌, ◌&&◌, ◌==◌, ℕ, List, length, Bool, true, false, cond, nat_lt, Option, Some, None, Result, Ok, Err, IfOk, IsUtf8, refl}
+use Rattle.std.specs.Prelude.{◌≡◌, ◌≢◌, ◌<◌, ◌^◌, ◌&&◌, ◌==◌, ℕ, List, length, Bool, true, false, cond, nat_lt, Some, None, Result, Ok, Err, IfOk, IsUtf8, refl}
 use Rattle.std.proofs.Common.{◌∙◌, ap, sym, subst, arith, true≢false}
 use Rattle.std.specs.Str.{is_utf8}
 use Rattle.std.proofs.lemmas.Str.{is_utf8-from_IsUtf8, IsUtf8-from_is_utf8}
 use Rattle.nb_base.specs.declared.entry.OutboxRow.{OutboxRow}
 use Rattle.nb_cells.specs.declared.cell.Cell.{Cell}
-use Rattle.nb_envelope.specs.Cells.{◌>>=◌, whole, Gives}
+use Rattle.nb_envelope.specs.Cells.{whole, Gives}
 use Rattle.nb_envelope.specs.Formats.{IsBytes}
 use Rattle.nb_envelope.specs.declared.fault.FormatFault.{FormatFault}
 use Rattle.nb_envelope.specs.declared.fault.FormatFault.TheVariants.{Damaged}

@@ -3,7 +3,7 @@ use Rattle.std.specs.Prelude.{◌==◌, ◌&&◌, ℕ, List, [], ◌∷◌, leng
 use Rattle.std.specs.Str.{is_utf8}
 use Rattle.nb_base.specs.declared.entry.Op.{Op}
 use Rattle.nb_base.specs.declared.entry.OutboxRow.{OutboxRow}
-use Rattle.nb_envelope.specs.Cells.{◌>>=◌, u64_in, flag_in, text_in, moment_in, due_in, list_in, items_in, envelope_in, whole}
+use Rattle.nb_envelope.specs.Cells.{◌>>=◌, u64_in, flag_in, text_in, moment_in, due_in, list_in, envelope_in, whole}
 
 -- an envelope to a queue that is named
 unfoldable pub sent_to : List ℕ → Option ℕ → List ℕ → Option (Op × List ℕ)

@@ -1,0 +1,5 @@
+pub mod SeenLaws
+pub mod ChangeLaws
+pub mod KeptLaws
+pub mod IdLaws
+pub mod OpenLaws

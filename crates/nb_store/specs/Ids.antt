@@ -1,0 +1,7 @@
+-- Texts with slashes.
+use Rattle.std.specs.Prelude.{◌≢◌, ℕ, List}
+use Rattle.std.specs.List.{AllByRecursion}
+
+-- no byte of the text is a slash
+abbrev pub HasNoSlash : List ℕ → Type 0
+HasNoSlash text = AllByRecursion (λ b. b ≢ 47) text

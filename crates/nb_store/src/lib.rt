@@ -1,0 +1,14 @@
+//! The tables of an endpoint over a store of cells, each change of which is one change of the cells.
+#![tactic(auto)]
+
+mod apply;
+mod changes;
+mod fault;
+mod id;
+mod kept;
+mod parts;
+mod scan;
+mod store;
+
+pub use fault::StoreFault;
+pub use store::{Store, StoreClosed, StoreRefusal};

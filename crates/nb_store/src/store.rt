@@ -1,0 +1,142 @@
+//! The tables over a store of cells.
+ghost use Rattle.std.specs.Prelude.{◌≡◌, ◌≢◌, ◌≤◌, IfOk, IfErr, Some, MatchResult, is_ok, true, if◌then◌else◌, option_copied};
+ghost use Rattle.std.specs.FinMap as map;
+ghost use Rattle.nb_base.specs.Shown.{stored, seen};
+ghost use Rattle.nb_base.specs.Sound.{IsSoundTables};
+ghost use Rattle.nb_base.specs.declared.entry.OutboxRow.{OutboxRow};
+ghost use Rattle.nb_store.specs.Applied.{Applied, IsCounted, IsOfApply};
+ghost use Rattle.nb_base.specs.Causes.{Rose};
+ghost use Rattle.nb_cells.specs.Cells.{CellMap};
+ghost use Rattle.nb_store.specs.Calls.{purged};
+ghost use Rattle.nb_store.specs.Scanning.{ScansAll, Opens, Refuses};
+ghost use Rattle.nb_store.specs.declared.fault.StoreFault.TheVariants.{Failed};
+
+use crate::apply::apply;
+use crate::changes::erase_record;
+use crate::fault::StoreFault;
+use crate::kept::Kept;
+use crate::parts::{Parts, Scanned};
+use crate::scan::scan_all;
+use nb_base::{Copied, Keys, NoMemory, OutboxRow, Reads, Tables, Text};
+use nb_cells::Cells;
+use std::alloc::Global;
+
+/// Tables, and the store of their cells. They are kept in memory, so that what reads them makes no call of the store.
+#[derive(Drop)]
+pub struct Store<D> {
+    base: D,
+    tables: Kept,
+}
+
+/// The store of cells, and the tables that it had.
+#[derive(Drop)]
+pub struct StoreClosed<D> {
+    pub base: D,
+    pub tables: Tables,
+}
+
+/// Why tables can't be opened, and the store of cells.
+#[derive(Drop)]
+pub struct StoreRefusal<D> {
+    pub fault: StoreFault,
+    pub base: D,
+}
+
+/// The tables whose cells the store has.
+fn open<D: Cells>(alloc: Global, base: &mut D) -> Result<Kept, StoreFault>
+    ensures honest_before { D.honest base.new → D.honest base.old }
+    ensures kept_firm { D.honest base.new → D.firm base.old → D.firm base.new }
+    ensures kept { (m : CellMap) → D.honest base.new → D.firm base.old → D.now base.old m → D.now base.new m }
+    ensures images { (n : CellMap) → D.honest base.new → D.images base.new n → D.images base.old n }
+    ensures opened { (m : CellMap) → D.honest base.new → D.firm base.old → D.now base.old m → MatchResult result (Opens m) (Refuses m) }
+    ensures cause { IsCounted (D.count base.old) (D.count base.new) result }
+{
+    let cells = scan_all(alloc, base)?;
+    read_cells(alloc, &cells)
+}
+
+/// The tables for which the cells stand.
+fn read_cells(alloc: Global, cells: &Scanned) -> Result<Kept, StoreFault>
+    ensures opened { (m : CellMap) → ScansAll m cells.now → MatchResult result (Opens m) (Refuses m) }
+    ensures answers { IfErr result (λ e. e ≢ Failed) }
+{
+    let mut parts = Parts::new(alloc);
+    match parts.join_spaces(alloc, cells) {
+        Ok(()) => Ok(Kept::of_parts(parts)),
+        Err(fault) => Err(fault),
+    }
+}
+
+impl<D: Cells> Store<D> {
+    /// The tables whose cells the store has. It is handed back where it is refused.
+    pub fn start(alloc: Global, base: D) -> Result<Store<D>, StoreRefusal<D>>
+        ensures honest_before { MatchResult result (λ s. D.honest s.base → D.honest base) (λ r. D.honest r.base → D.honest base) }
+        ensures kept_firm { MatchResult result (λ s. D.honest s.base → D.firm base → D.firm s.base) (λ r. D.honest r.base → D.firm base → D.firm r.base) }
+        ensures kept { (m : CellMap) → MatchResult result (λ s. D.honest s.base → D.firm base → D.now base m → D.now s.base m) (λ r. D.honest r.base → D.firm base → D.now base m → D.now r.base m) }
+        ensures images { (n : CellMap) → MatchResult result (λ s. D.honest s.base → D.images s.base n → D.images base n) (λ r. D.honest r.base → D.images r.base n → D.images base n) }
+        ensures opened { (m : CellMap) → MatchResult result (λ s. D.honest s.base → D.firm base → D.now base m → Opens m s.tables) (λ r. D.honest r.base → D.firm base → D.now base m → Refuses m r.fault) }
+        ensures later { MatchResult result (λ s. D.count base ≤ D.count s.base) (λ r. D.count base ≤ D.count r.base) }
+        ensures failed { IfErr result (λ r. r.fault ≡ Failed → Rose (D.count base) (D.count r.base)) }
+    {
+        let mut base = base;
+        match open(alloc, &mut base) {
+            Ok(tables) => Ok(Store { base, tables }),
+            Err(fault) => Err(StoreRefusal { fault, base }),
+        }
+    }
+
+    /// Each key with what stands there. No call of the store of cells is made.
+    pub fn read(&self, alloc: Global, keys: &Keys) -> Result<Reads, NoMemory>
+        ensures { IfOk result (λ reads. reads ≡ seen (stored self.now.tables) keys.now) }
+    {
+        self.tables.read(alloc, keys)
+    }
+
+    /// The record of a message, where it was handled. No call of the store of cells is made.
+    pub fn outbox(&self, id: &Text) -> Result<Option<OutboxRow>, NoMemory>
+        ensures { IfOk result (λ found. found ≡ map.get self.now.tables.outbox id.now) }
+    {
+        match self.tables.record(id) {
+            Some(row) => Ok(Some(row.copy()?)),
+            None => Ok(None),
+        }
+    }
+
+    /// Takes the record of a message out, which was sent.
+    pub fn purge(&mut self, alloc: Global, id: &Text) -> Result<(), StoreFault>
+        requires { (r : OutboxRow) × (map.get self.old.tables.outbox id.now ≡ Some r) × (r.sent ≡ true) }
+        ensures applied { Applied D.honest D.now D.images D.firm self.old.base self.new.base self.old.tables (purged self.old.tables id.now) result }
+        ensures cause { IsCounted (D.count self.old.base) (D.count self.new.base) result }
+        ensures tables { self.new.tables ≡ (if is_ok result then purged self.old.tables id.now else self.old.tables) }
+        ensures answers { MatchResult result (λ x. Unit {0}) IsOfApply }
+    {
+        let changes = erase_record(alloc, id)?;
+        match apply(alloc, &mut self.base, &changes) {
+            Ok(()) => {
+                self.tables.remove_record(id);
+                Ok(())
+            }
+            Err(fault) => Err(fault),
+        }
+    }
+
+    /// The store of cells.
+    pub fn base(&self) -> &D
+        ensures { result.now ≡ self.now.base }
+    {
+        &self.base
+    }
+
+    /// The store of cells, and the tables.
+    pub fn close(self) -> StoreClosed<D>
+        ensures base { result.base ≡ self.base }
+        ensures tables { result.tables ≡ self.tables }
+        ensures sound { IsSoundTables result.tables }
+    {
+        let Store { base, tables } = self;
+        StoreClosed {
+            base,
+            tables: tables.into_tables(),
+        }
+    }
+}
