@@ -1,1 +1,3 @@
 pub mod FormatLaws
+pub mod CellLaws
+pub mod PostLaws

@@ -1,3 +1,5 @@
 pub mod Spelled
 pub mod Read
 pub mod Maps
+pub mod Stands
+pub mod Changes

@@ -1,6 +1,12 @@
 //! Entries of queues over a store of cells.
 #![tactic(auto)]
 
+mod changes;
+mod fault;
+mod post;
 mod put;
 mod read;
 mod take;
+
+pub use fault::PostFault;
+pub use post::{LIMIT, Post, PostClosed};
