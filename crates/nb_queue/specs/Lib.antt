@@ -3,3 +3,4 @@ pub mod Read
 pub mod Maps
 pub mod Stands
 pub mod Changes
+pub mod Opening

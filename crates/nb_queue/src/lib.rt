@@ -3,6 +3,7 @@
 
 mod changes;
 mod fault;
+mod opening;
 mod post;
 mod put;
 mod read;

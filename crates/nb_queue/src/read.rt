@@ -1,8 +1,9 @@
 //! Entries and numbers read from their cells.
-ghost use Rattle.std.specs.Prelude.{◌≡◌};
+ghost use Rattle.std.specs.Prelude.{◌≡◌, IfErr};
 ghost use Rattle.nb_envelope.specs.Cells.{u64_in, whole, Gives};
 ghost use Rattle.nb_envelope.specs.Formats.{IsBytes};
 ghost use Rattle.nb_queue.specs.Read.{entry_in, next_in};
+ghost use Rattle.nb_envelope.specs.declared.fault.FormatFault.TheVariants.{Damaged};
 
 use crate::take::{take_entry, take_next};
 use nb_base::Queued;
@@ -14,6 +15,7 @@ use std::alloc::Global;
 #[tactic(auto, unfolding(nb_envelope::specs::Cells::whole))]
 pub(crate) fn read_number(key: &[u8]) -> Result<u64, FormatFault>
     ensures given { Gives (λ n. n) result (whole u64_in key.now) }
+    ensures needs_no_memory { IfErr result (λ e. e ≡ Damaged) }
     ensures bytes { IsBytes key.now }
 {
     let (number, rest) = take_u64(key)?;
@@ -27,6 +29,7 @@ pub(crate) fn read_number(key: &[u8]) -> Result<u64, FormatFault>
 #[tactic(auto, unfolding(nb_envelope::specs::Cells::whole))]
 pub(crate) fn read_next(bytes: &[u8]) -> Result<u64, FormatFault>
     ensures given { Gives (λ n. n) result (whole next_in bytes.now) }
+    ensures needs_no_memory { IfErr result (λ e. e ≡ Damaged) }
     ensures bytes { IsBytes bytes.now }
 {
     let (number, rest) = take_next(bytes)?;

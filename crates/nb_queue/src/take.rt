@@ -1,7 +1,8 @@
 //! Entries and numbers read at the front of bytes.
-ghost use Rattle.std.specs.Prelude.{◌≡◌};
+ghost use Rattle.std.specs.Prelude.{◌≡◌, IfErr};
 ghost use Rattle.nb_envelope.specs.Cells.{Gives};
 ghost use Rattle.nb_queue.specs.Read.{queued_in, content_in, entry_in, next_in};
+ghost use Rattle.nb_envelope.specs.declared.fault.FormatFault.TheVariants.{Damaged};
 
 use nb_base::{Moment, Queued, Text};
 use nb_envelope::FormatFault;
@@ -56,7 +57,8 @@ pub(crate) fn take_entry(alloc: Global, bytes: &[u8]) -> Result<(Queued, &[u8]),
 /// A number in format 1.
 #[tactic(auto, unfolding(crate::specs::Read::next_in))]
 pub(crate) fn take_next(bytes: &[u8]) -> Result<(u64, &[u8]), FormatFault>
-    ensures { Gives (λ x. (x.0, x.1.now)) result (next_in bytes.now) }
+    ensures given { Gives (λ x. (x.0, x.1.now)) result (next_in bytes.now) }
+    ensures needs_no_memory { IfErr result (λ e. e ≡ Damaged) }
 {
     match bytes {
         [1, rest @ ..] => take_u64(rest),
