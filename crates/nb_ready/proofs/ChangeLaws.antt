@@ -1,11 +1,11 @@
 -- What is known of numbers after a change of one of them.
-use Rattle.std.specs.Prelude.{◌≡◌, ◌≢◌, ℕ, Option, Some, None}
-use Rattle.std.proofs.Common.{◌∙◌, ap, sym, subst}
+use Rattle.std.specs.Prelude.{◌≡◌, ◌≢◌, ℕ, Option, None}
+use Rattle.std.proofs.Common.{◌∙◌, ap}
 use Rattle.std.specs.FinMap as finite
 use Rattle.std.specs.Option.{option_map_or}
 use Rattle.std.specs.Ordering.{nat_cmp}
 use Rattle.nb_base.proofs.Maps.{numbers, at_same, at_other}
-use Rattle.nb_ready.specs.Seats.{Seats, Has, fresh, changed_at}
+use Rattle.nb_ready.specs.Seats.{Seats, Has, changed_at}
 use Rattle.nb_ready.specs.declared.seat.Seat.{Seat}
 
 pub changed-insert : (m : Seats) (n : ℕ) (s : Seat) (f : Seat → Seat) → Has m n s → changed_at m n f ≡ finite.insert m n (f s)

@@ -1,5 +1,5 @@
 -- The entries of two sides, and their counts.
-use Rattle.std.specs.Prelude.{◌≡◌, ◌≢◌, ℕ, zero, suc, ◌+◌, ◌-◌, ◌<◌, ◌≤◌, List, [], ◌∷◌, ◌++◌, length, Bool, true, false, cond, ◌&&◌, nat_lt, T, Option, Some, None, IsSome, is_some, refl}
+use Rattle.std.specs.Prelude.{◌≡◌, ℕ, zero, suc, ◌+◌, ◌-◌, ◌<◌, ◌≤◌, List, [], ◌∷◌, ◌++◌, length, Bool, true, false, cond, ◌&&◌, nat_lt, T, Option, Some, None, IsSome, is_some, refl}
 use Rattle.std.proofs.Common.{◌∙◌, sym, ap, subst, inl, inr, arith, true≢false, length-append, lt-ltb}
 use Rattle.std.proofs.lemmas.Bool.{le-ltb}
 use Rattle.std.proofs.lemmas.List.{nil_from_length}
@@ -11,11 +11,11 @@ use Rattle.std.specs.List.{AllByRecursion, filter_map, cons_option}
 use Rattle.std.specs.FinMap as finite
 use Rattle.std.specs.FinMap.{find, put, is_sorted}
 use Rattle.std.specs.FinMap.Entries.{below_all}
-use Rattle.std.specs.Ordering.{nat_cmp, eq_by_cmp, is_lt, is_eq}
+use Rattle.std.specs.Ordering.{nat_cmp, is_lt, is_eq}
 use Rattle.std.specs.Cmp.{nat_cmp_total}
 use Rattle.nb_base.specs.declared.entry.Count.{Count}
 use Rattle.nb_base.proofs.Maps.{numbers, itself, same_or_other, apart}
-use Rattle.nb_ready.specs.Seats.{Seats, Has, count_in, counts_of}
+use Rattle.nb_ready.specs.Seats.{Seats, count_in, counts_of}
 use Rattle.nb_ready.specs.Nodes.{joined, AreApart}
 use Rattle.nb_ready.specs.declared.seat.Seat.{Seat}
 use Rattle.nb_ready.proofs.SeatLaws.{same_seats}

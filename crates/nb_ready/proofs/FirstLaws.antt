@@ -1,12 +1,12 @@
 -- The first of the numbers of two sides.
-use Rattle.std.specs.Prelude.{◌≡◌, ◌≢◌, ◌⊎◌, ℕ, ◌<◌, ◌≤◌, Bool, true, false, cond, nat_lt, Option, Some, None, refl}
+use Rattle.std.specs.Prelude.{◌≡◌, ℕ, ◌<◌, ◌≤◌, Bool, true, false, cond, nat_lt, Option, Some, None, refl}
 use Rattle.std.proofs.Common.{◌∙◌, sym, ap, subst, inl, inr, arith, true≢false, ltb-true}
 use Rattle.std.proofs.lemmas.Bool.{ltb-false}
 use Rattle.std.specs.FinMap as finite
 use Rattle.std.specs.Ordering.{nat_cmp}
 use Rattle.nb_base.specs.declared.entry.Waiting.{Waiting}
 use Rattle.nb_base.proofs.Maps.{numbers, same_or_other, at_same, at_other}
-use Rattle.nb_ready.specs.Seats.{Seats, Has, HasA, is_free, IsLeastFree, IsFirstDue, IsBefore}
+use Rattle.nb_ready.specs.Seats.{Seats, Has, is_free, IsLeastFree, IsFirstDue}
 use Rattle.nb_ready.specs.First.{or_else, earlier, first_of, both_first, IsFirst}
 use Rattle.nb_ready.specs.Nodes.{joined, AreApart}
 use Rattle.nb_ready.specs.declared.first.First.{First}

@@ -1,10 +1,9 @@
 -- What a node shows, by its kind.
-use Rattle.std.specs.Prelude.{◌≡◌, ◌≢◌, ℕ, ◌<◌, ◌≤◌, Option, Some, None, refl}
+use Rattle.std.specs.Prelude.{◌≡◌, ◌≢◌, ℕ, ◌<◌, ◌≤◌, Option, Some, None}
 use Rattle.std.proofs.Common.{◌∙◌, Box, sym, ap, subst, inl, inr, IsSome, true≢false}
 use Rattle.std.specs.declared.alloc.Global.{Global}
 use Rattle.std.specs.FinMap as finite
 use Rattle.std.specs.Ordering.{nat_cmp}
-use Rattle.nb_base.specs.declared.entry.Waiting.{Waiting}
 use Rattle.nb_base.proofs.Maps.{numbers, same_or_other, at_same, at_other}
 use Rattle.nb_ready.specs.First.{IsFirst, first_of}
 use Rattle.nb_ready.specs.Nodes.{shown, joined, AreApart, IsForked, IsTree}

@@ -1,5 +1,5 @@
 -- What a tree of numbers shows, and what each of its nodes keeps.
-use Rattle.std.specs.Prelude.{◌≡◌, ℕ, ◌+◌, ◌<◌, ◌≤◌, max, ◌++◌}
+use Rattle.std.specs.Prelude.{ℕ, ◌+◌, ◌<◌, ◌≤◌, max, ◌++◌}
 use Rattle.std.specs.FinMap as finite
 use Rattle.nb_ready.specs.First.{IsFirst}
 use Rattle.nb_ready.specs.Seats.{Seats, Shown, Has}

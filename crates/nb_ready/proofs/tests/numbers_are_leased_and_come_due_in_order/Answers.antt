@@ -1,7 +1,6 @@
 use Rattle.std.proofs.Common.{◌≡◌, Some, None, true, false, ℕ, refl, arith}
 use Rattle.std.specs.FinMap as finite
 use Rattle.nb_ready.specs.Seats.{Seats, Has, fresh, changed_at}
-use Rattle.nb_ready.specs.declared.seat.Seat.{Seat}
 use Rattle.nb_ready.proofs.ChangeLaws.{has_added, has_beside, has_changed, has_kept}
 use Rattle.nb_ready.proofs.tests.numbers_are_leased_and_come_due_in_order.Goals as goal
 

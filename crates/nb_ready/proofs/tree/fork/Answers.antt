@@ -1,6 +1,4 @@
-use Rattle.std.proofs.Common.{sym, ap, subst}
-use Rattle.nb_ready.specs.First.{IsFirst, both_first}
-use Rattle.nb_ready.specs.Nodes.{joined, AreApart}
+use Rattle.std.proofs.Common.{ap}
 use Rattle.nb_ready.proofs.FirstLaws.{first_sides}
 use Rattle.nb_ready.proofs.tree.fork.Goals as goal
 

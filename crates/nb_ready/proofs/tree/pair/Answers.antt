@@ -1,4 +1,3 @@
-use Rattle.std.proofs.Common.{sym}
 use Rattle.std.specs.FinMap as finite
 use Rattle.nb_ready.proofs.SeatLaws.{if_same, insert-swap}
 use Rattle.nb_ready.proofs.tree.pair.Goals as goal

@@ -1,4 +1,4 @@
-use Rattle.std.proofs.Common.{◌≡◌, ◌∙◌, ◌<◌, ◌≤◌, sym, ap, subst, arith}
+use Rattle.std.proofs.Common.{◌∙◌, sym, ap, subst, arith}
 use Rattle.nb_ready.specs.Nodes.{joined, AreApart}
 use Rattle.nb_ready.proofs.SeatLaws.{apart_low, apart_high, joined-empty_low, joined-empty_high, if_same}
 use Rattle.nb_ready.proofs.tree.within.Goals as goal

@@ -1,4 +1,4 @@
-use Rattle.std.proofs.Common.{◌∙◌, ap, sym, arith, rules}
+use Rattle.std.proofs.Common.{◌∙◌, ap, arith, rules}
 use Rattle.std.specs.FinMap as finite
 use Rattle.nb_ready.proofs.NodeLaws.{at_fork, differ, get_at_low, get_at_high, insert_at_low, insert_at_high, forked}
 use Rattle.nb_ready.proofs.tree.Tree.+add.Goals as goal

@@ -1,6 +1,5 @@
 use Rattle.std.proofs.Common.{◌∙◌, sym, ap, subst, rules, IsSome}
 use Rattle.std.specs.FinMap as finite
-use Rattle.nb_ready.specs.Nodes.{shown}
 use Rattle.nb_ready.proofs.NodeLaws.{at_fork, get_at_low, get_at_high, insert_at_low, insert_at_high, set_empty, set_one, forked}
 use Rattle.nb_ready.proofs.tree.Tree.+set.Goals as goal
 use Rattle.nb_ready.proofs.tree.Tree.+set.Goals.{then-number-pivot, else-number-pivot}

@@ -1,0 +1,4 @@
+pub mod FormatLaws
+pub mod CellLaws
+pub mod PostLaws
+pub mod OpeningLaws

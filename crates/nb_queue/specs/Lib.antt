@@ -1,0 +1,6 @@
+pub mod Spelled
+pub mod Read
+pub mod Maps
+pub mod Stands
+pub mod Changes
+pub mod Opening

@@ -1,0 +1,13 @@
+//! Entries of queues over a store of cells.
+#![tactic(auto)]
+
+mod changes;
+mod fault;
+mod opening;
+mod post;
+mod put;
+mod read;
+mod take;
+
+pub use fault::PostFault;
+pub use post::{LIMIT, Post, PostClosed};

@@ -1,0 +1,125 @@
+//! The post: the entries of all queues over a store of cells.
+ghost use Rattle.std.specs.Prelude.{◌≡◌, ◌≢◌, ◌↔◌, ◌^◌, [], IfOk, OnOk, OnErr, IsSome, Err};
+ghost use Rattle.std.specs.FinMap as map;
+ghost use Rattle.nb_queue.specs.Maps.{cells_of};
+ghost use Rattle.nb_queue.specs.Stands.{with_entry, without_entry, Leaves, IsCaused};
+
+use crate::changes::{put_changes, remove_changes};
+use crate::fault::PostFault;
+use nb_base::{Copied, Envelope, Moment, PostState, Queued, Text};
+use nb_cells::{CellFault, Cells};
+use std::alloc::Global;
+use std::marker::Model;
+
+/// No entry has this number or a greater one.
+pub const LIMIT: u64 = 1 << 62;
+
+/// The entries of all queues over a store of cells, which contracts see as the store and what stands in the queues.
+#[derive(Drop)]
+pub struct Post<P> {
+    cells: P,
+    state: PostState,
+}
+
+impl<P> Model for Post<P> {
+    ghost use Rattle.nb_base.specs.declared.tables.PostState.{PostState};
+    ghost use Rattle.nb_queue.specs.Stands.{IsPost, post_code};
+    ghost use Rattle.std.specs.Coded.{coded×};
+
+    ghost Value = { P × PostState };
+
+    ghost coded = { coded× P.code post_code };
+
+    ghost view = { λ p. (p.cells, p.state) };
+
+    ghost invariant = { λ p. IsPost p.state };
+}
+
+/// A post that was closed: its store, and what stood in its queues.
+pub struct PostClosed<P> {
+    pub cells: P,
+    pub post: PostState,
+}
+
+impl<P: Cells + Drop> Post<P> {
+    /// Puts an envelope into a queue, or has it wait for a moment, and answers the number of the new entry.
+    pub fn put(
+        &mut self,
+        alloc: Global,
+        queue: &Text,
+        due: Option<Moment>,
+        envelope: &Envelope,
+    ) -> Result<u64, PostFault>
+        requires { queue.now ≢ [] }
+        ensures spent { (result ≡ Err PostFault.Spent) ↔ (self.old.1.next ≡ 2 ^ 62) }
+        ensures number { IfOk result (λ n. n ≡ self.old.1.next) }
+        ensures ok { OnOk result (self.new.1 ≡ with_entry self.old.1 (record { queue = queue.now; due = due; envelope = envelope.now })) }
+        ensures err { OnErr result (self.new.1 ≡ self.old.1) }
+        ensures honest_before { P.honest self.new.0 → P.honest self.old.0 }
+        ensures cells { P.honest self.new.0 → P.firm self.old.0 → P.now self.old.0 (cells_of self.old.1) → Leaves (P.firm self.new.0) (P.now self.new.0) (P.images self.old.0) (P.images self.new.0) (cells_of self.old.1) (cells_of (with_entry self.old.1 (record { queue = queue.now; due = due; envelope = envelope.now }))) result }
+        ensures cause { IsCaused (P.count self.old.0) (P.count self.new.0) result }
+    {
+        let number = self.state.next;
+        if number >= LIMIT {
+            return Err(PostFault::Spent);
+        }
+        let entry = Queued {
+            queue: queue.copy()?,
+            due,
+            envelope: envelope.copy()?,
+        };
+        let changes = put_changes(alloc, number, queue, due, envelope)?;
+        self.state.entries.insert(number, entry)?;
+        match self.cells.apply(alloc, &changes) {
+            Ok(()) => {
+                self.state.next = number + 1;
+                Ok(number)
+            }
+            Err(CellFault::Failed) => {
+                self.state.entries.remove(number);
+                Err(PostFault::Failed)
+            }
+            Err(CellFault::NoMemory) => {
+                self.state.entries.remove(number);
+                Err(PostFault::NoMemory)
+            }
+        }
+    }
+
+    /// Takes an entry out, which is there.
+    pub fn remove(&mut self, alloc: Global, number: u64) -> Result<(), PostFault>
+        requires { IsSome (map.get self.old.1.entries number) }
+        ensures never_spent { result ≢ Err PostFault.Spent }
+        ensures ok { OnOk result (self.new.1 ≡ without_entry self.old.1 number) }
+        ensures err { OnErr result (self.new.1 ≡ self.old.1) }
+        ensures honest_before { P.honest self.new.0 → P.honest self.old.0 }
+        ensures cells { P.honest self.new.0 → P.firm self.old.0 → P.now self.old.0 (cells_of self.old.1) → Leaves (P.firm self.new.0) (P.now self.new.0) (P.images self.old.0) (P.images self.new.0) (cells_of self.old.1) (cells_of (without_entry self.old.1 number)) result }
+        ensures cause { IsCaused (P.count self.old.0) (P.count self.new.0) result }
+    {
+        let changes = remove_changes(alloc, number)?;
+        match self.cells.apply(alloc, &changes) {
+            Ok(()) => {
+                self.state.entries.remove(number);
+                Ok(())
+            }
+            Err(CellFault::Failed) => Err(PostFault::Failed),
+            Err(CellFault::NoMemory) => Err(PostFault::NoMemory),
+        }
+    }
+
+    /// The store, and what stood in the queues.
+    pub fn close(self) -> PostClosed<P>
+        ensures cells { result.cells ≡ self.0 }
+        ensures post { result.post ≡ self.1 }
+    {
+        let Post { cells, state } = self;
+        PostClosed { cells, post: state }
+    }
+
+    /// The store.
+    pub fn cells(&self) -> &P
+        ensures { result.now ≡ self.now.0 }
+    {
+        &self.cells
+    }
+}
