@@ -2,8 +2,10 @@
 #![tactic(auto)]
 
 pub mod expr;
+pub mod expressions;
 pub mod fault;
 pub mod item;
 pub mod lexeme;
 pub mod parser;
+pub mod statements;
 pub mod stmt;
