@@ -53,6 +53,7 @@ parens_reads E (suc room) left d o q e l w g k m s = bind_reads _ (past_symbol_r
 
 call_reads : (E : Excuse) (room left : ℕ) (d : Deeper) (p : ℕ) (f : Function) (o q : ℕ) (e : Term) → (is_zero room ≡ false → DeeperComplete E (one_less room) d) → IsWithin 5 e → (g : Source) (k m : ℕ) → Meets E g k (spelling room left (Call p f o e q)) m
     → Reads E (call (is_zero room) d left f) g k (Call p f o e q) m
+unfolding call
 call_reads E zero left d p f o q e l w g k m s = bind_reads _ (key_reads (function_key f) s.0) (bind_stops _ (past_symbol_stops E sym'.Open o g (suc k) s.2.0 (s.2.1 refl)))
 call_reads E (suc room) left d p f o q e l w g k m s =
     bind_reads _ (key_reads (function_key f) s.0) (bind_reads _ (past_symbol_reads E false sym'.Open o g (suc k) s.2.0 s.2.1) (inner_reads E room left d (λ o e q. Call p f o e q) o q e (l refl) w g (suc (suc k)) m s.2.2))

@@ -9,3 +9,5 @@ pub mod SoundItems
 pub mod CompleteScript
 pub mod CompleteItems
 pub mod First
+pub mod Chain
+pub mod Rows

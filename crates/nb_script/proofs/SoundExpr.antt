@@ -44,6 +44,7 @@ signed_sound : (room : ℕ) (d : Deeper) (left : ℕ) (op : Unary) → DeeperSou
 signed_sound room d left op l = bind_sound (past_symbol_sound (is_zero room || is_zero left) (unary_symbol op)) (λ p u. bind_sound (l.operand (left - 1)) (λ e fits. ret_sound (Prefix p op e) fits refl))
 
 call_sound : (room : ℕ) (d : Deeper) (left : ℕ) (f : Function) → DeeperSound (one_less room) d → Expr room left 0 (call (is_zero room) d left f)
+unfolding call
 call_sound room d left f l =
     bind_sound (key_sound (function_key f)) (λ p t. bind_sound (past_symbol_sound (is_zero room) sym'.Open) (λ o u. bind_sound (l.inner left) (λ e fits. bind_sound (symbol_sound sym'.Close) (λ q v. ret_sound (Call p f o e q) fits refl))))
 

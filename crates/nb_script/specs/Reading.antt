@@ -231,13 +231,15 @@ signed full deeper left op = do
   e ← deeper.operand (left - 1)
   ret (Prefix p op e)
 
-abbrev pub call : Bool → Deeper → ℕ → Function → Parser Term
-call full deeper left f = do
-  p ← key (function_key f)
+abbrev pub argument : Bool → Deeper → ℕ → Function → ℕ → Parser Term
+argument full deeper left f p = do
   o ← take full (want_symbol sym.Open)
   e ← deeper.inner left
   q ← symbol sym.Close
   ret (Call p f o e q)
+
+unfoldable pub call : Bool → Deeper → ℕ → Function → Parser Term
+call full deeper left f = key (function_key f) >>= λ p. argument full deeper left f p
 
 unfoldable pub constant_word : ConstantWord → Parser Term
 constant_word w = key (constant_key w) >>= λ p. ret (Constant p w)
@@ -314,6 +316,13 @@ turn next left e again (Some op) = do
   p ← take (is_zero (left - operators e)) (want_symbol (binary_symbol op))
   r ← next (left - operators e - 1)
   again (Infix e p op r)
+
+-- an operator and its right operand, behind the left one
+abbrev pub joined : (left : ℕ) (next : ℕ → Parser Term) → Term → Binary → Parser Term
+joined left next e op = do
+  p ← take (is_zero left) (want_symbol (binary_symbol op))
+  r ← next (left - 1)
+  ret (Infix e p op r)
 
 -- what follows a left operand: at most so many operators of a level, where so many may come from the left operand on
 unfoldable pub chain : (turns n : ℕ) (next : ℕ → Parser Term) (left : ℕ) → Term → Parser Term
