@@ -1,2 +1,5 @@
+pub mod FirstLaws
+pub mod KeyLaws
 pub mod MetLaws
+pub mod SightLaws
 pub mod TypeTexts

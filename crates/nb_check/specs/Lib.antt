@@ -1,5 +1,11 @@
 pub mod Blocks
 pub mod Bodies
+pub mod Breaches
+pub mod Checks
 pub mod Declarations
+pub mod Fits
 pub mod Keys
+pub mod Kinds
 pub mod Meets
+pub mod Rules
+pub mod Statements

@@ -3,14 +3,29 @@
 #![tactic(auto)]
 
 mod bodies;
+mod breach;
+mod checked;
+mod fits;
+mod follow;
 mod incoming;
-mod keys;
+mod judge;
+mod key_set;
 mod known;
-mod meets;
+mod met;
+mod refused;
+mod rules;
+mod sight;
 mod types;
 
 pub use bodies::BodyFault;
+pub use breach::{Breach, CheckKind, Placed};
+pub use checked::{Checked, decode_body, keys, meets};
 pub use incoming::{Address, Incoming};
 pub use known::Known;
-pub use meets::Blocks;
+pub use met::Blocks;
+pub use refused::Refused;
+pub use sight::{Judgement, Local, SagaSight, Sight, Taken};
 pub use types::{Declared, MessageType, SagaType, StateField};
+
+#[cfg(test)]
+mod tests;

@@ -19,6 +19,16 @@ pub struct Declared {
     pub kind: FieldKind,
 }
 
+impl Copied for Declared {
+    fn copy(&self) -> Result<Declared, NoMemory> {
+        let name = self.name.copy()?;
+        Ok(Declared {
+            name,
+            kind: self.kind,
+        })
+    }
+}
+
 /// A declared message.
 #[derive(Debug, Drop)]
 pub struct MessageType {
@@ -61,7 +71,7 @@ pub(crate) fn type_text(alloc: Global, name: &TypeName) -> Result<Text, NoMemory
     Text::of_string(text)
 }
 
-fn field_of(field: &Field) -> Result<Declared, NoMemory>
+pub(crate) fn field_of(field: &Field) -> Result<Declared, NoMemory>
     ensures { IfOk result (λ d. d ≡ field_of field.now) }
 {
     let name = field.name.copy()?;
@@ -177,7 +187,7 @@ fn add_timeout(alloc: Global, part: &Part, names: &mut Names) -> Result<(), NoMe
     Ok(())
 }
 
-fn timeouts(alloc: Global, parts: &[Part]) -> Result<Names, NoMemory>
+pub(crate) fn timeouts(alloc: Global, parts: &[Part]) -> Result<Names, NoMemory>
     ensures { IfOk result (λ ns. ns ≡ spec.timeouts (map tree.part parts.now)) }
 {
     let mut names = Items::new(alloc);

@@ -1,6 +1,6 @@
 use Rattle.std.proofs.Common.{◌≡◌, drop}
 use Rattle.nb_check.specs.Keys.{has_key}
-use Rattle.nb_check.proofs.keys.has_key.Given as goal
+use Rattle.nb_check.proofs.key_set.has_key.Given as goal
 
 abbrev pub invariant-loop-k : goal.invariant-loop-k
 invariant-loop-k l = has_key l.key (drop l.k-index l.keys) ≡ has_key l.key l.keys

@@ -4,7 +4,7 @@ use Rattle.nb_script.specs.Tree.{script, item}
 use Rattle.nb_check.specs.Blocks.{blocks, item_blocks}
 use Rattle.nb_check.specs.Meets.{met_from}
 use Rattle.nb_check.proofs.MetLaws.{met_step, next_of}
-use Rattle.nb_check.proofs.meets.met_numbers.Goals as goal
+use Rattle.nb_check.proofs.met.met_numbers.Goals as goal
 
 pub loop-i-preserved : goal.loop-i-preserved
 loop-i-preserved c =

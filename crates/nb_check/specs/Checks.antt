@@ -1,0 +1,54 @@
+-- Scripts that break no rule.
+use Rattle.std.specs.Prelude.{◌≡◌, ℕ, List, [], Option, Some, None, Result, Ok, Err, slice_get}
+use Rattle.nb_base.specs.Messages.{Message}
+use Rattle.nb_base.specs.declared.value.Field.{Field}
+use Rattle.nb_base.specs.declared.value.Key.{Key}
+use Rattle.nb_script.specs.Grammar.{ItemTerm}
+use Rattle.nb_check.specs.Bodies.{decoded}
+use Rattle.nb_check.specs.Breaches.{first_of}
+use Rattle.nb_check.specs.Declarations.{messages, names_of, sagas}
+use Rattle.nb_check.specs.Keys.{read_set}
+use Rattle.nb_check.specs.Meets.{met_numbers}
+use Rattle.nb_check.specs.Rules.{script_faults}
+use Rattle.nb_check.specs.declared.breach.Breach.{Breach}
+use Rattle.nb_check.specs.declared.refused.Refused.{Refused}
+use Rattle.nb_check.specs.declared.refused.Refused.TheVariants.{Broken, NoMemory}
+use Rattle.nb_check.specs.declared.types.MessageType.{MessageType}
+use Rattle.nb_check.specs.declared.types.SagaType.{SagaType}
+
+-- a script that breaks no rule, with what it declares
+pub record IsChecked (items : List ItemTerm) (messages_of_it : List MessageType) (names_of_it : List (List ℕ)) (sagas_of_it : List SagaType) : Type 0 where
+  pub rules : script_faults items ≡ []
+  pub types : messages_of_it ≡ messages items
+  pub names : names_of_it ≡ names_of messages_of_it
+  pub kinds : sagas_of_it ≡ sagas items
+
+-- the names of the declared messages
+abbrev pub declared_names : List ItemTerm → List (List ℕ)
+declared_names items = names_of (messages items)
+
+abbrev pub fields_by : Option MessageType → List ℕ → Option (List Field)
+fields_by None body = None
+fields_by (Some t) body = decoded t.fields body
+
+-- the fields of a body of the message with this number, or nothing where it is undecodable
+abbrev pub body_fields : List ItemTerm → ℕ → List ℕ → Option (List Field)
+body_fields items n body = fields_by (slice_get (messages items) n) body
+
+-- the numbers of the blocks that a message meets
+abbrev pub blocks_met : List ItemTerm → Message → List ℕ
+blocks_met items e = met_numbers items (declared_names items) e
+
+-- the keys that a message reads
+abbrev pub keys_read : List ItemTerm → Message → List Key
+keys_read items e = read_set items (messages items) e
+
+-- Why a script was refused: by the breach that no other is before, or want of memory.
+abbrev pub Refuses : List Breach → Refused → Type 0
+Refuses fs (Broken b) = first_of fs ≡ Some b
+Refuses fs NoMemory = Unit {0}
+
+-- No rule is broken, or the script was refused.
+abbrev pub IsUnbroken : List Breach → Result (Unit {0}) Refused → Type 0
+IsUnbroken fs (Ok u) = fs ≡ []
+IsUnbroken fs (Err e) = Refuses fs e

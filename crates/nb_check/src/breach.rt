@@ -1,0 +1,157 @@
+//! Rules that a script breaks, and the first of them.
+ghost use Rattle.std.specs.Prelude.{◌≡◌, ◌++◌, None, OnOk};
+ghost use Rattle.nb_check.specs.Breaches as spec;
+ghost use Rattle.nb_check.specs.Breaches.{again, twice, rank, is_before, first_of};
+
+use nb_base::{Items, NoMemory, Text};
+
+/// The rules, in the order in which they are reported at one place.
+#[derive(Clone, Copy, Debug, PartialEq, Eq)]
+pub enum CheckKind {
+    /// Each message is declared once.
+    MessageTwice,
+    /// Each saga is declared once.
+    SagaTwice,
+    /// The field names of a message, of a saga with its correlation property, and of a message that is made differ.
+    FieldTwice,
+    /// A correlation property is a number or a text.
+    BadCorrelation,
+    /// A revision lies from 1 to 1000, and one since which a field is there from 2 to the saga's.
+    BadRevision,
+    /// Each type names a declared message.
+    UnknownMessage,
+    /// In a saga a message stands in at most one of start, find and reply, and in at most one timeout.
+    PartTwice,
+    /// A field that is named exists.
+    UnknownField,
+    /// A message that is made is given every field.
+    FieldMissing,
+    /// What speaks of a saga stands in a part of one.
+    NoSaga,
+    /// The correlation property isn't set.
+    SetsCorrelation,
+    /// The message of a timeout statement has a timeout part in the saga.
+    NoTimeoutPart,
+    /// A name that is made is new among those in sight.
+    NameTwice,
+    /// A name that is used is in sight.
+    UnknownName,
+    /// A row's name is built of what the message alone says.
+    RowName,
+    /// Kinds agree.
+    WrongType,
+    /// There was no memory for the check.
+    NoMemory,
+}
+
+/// A rule that is broken, and the number of bytes before the token where it is.
+#[derive(Clone, Copy, Debug, PartialEq, Eq)]
+pub struct Breach {
+    pub at: u32,
+    pub rule: CheckKind,
+}
+
+/// A list of broken rules.
+pub(crate) type Breaches = Items<Breach>;
+
+/// A name with its place.
+#[derive(Debug, Drop)]
+pub struct Placed {
+    pub name: Text,
+    pub at: u32,
+}
+
+pub(crate) fn blame(breaches: &mut Breaches, at: u32, rule: CheckKind) -> Result<(), NoMemory>
+    ensures { OnOk result (breaches.new ≡ breaches.old ++ spec.breach at rule) }
+{
+    breaches.push(Breach { at, rule })
+}
+
+pub(crate) fn want_true(
+    breaches: &mut Breaches,
+    holds: bool,
+    at: u32,
+    rule: CheckKind,
+) -> Result<(), NoMemory>
+    ensures { OnOk result (breaches.new ≡ breaches.old ++ spec.unless_true holds at rule) }
+{
+    if holds {
+        Ok(())
+    } else {
+        blame(breaches, at, rule)
+    }
+}
+
+fn want_others(
+    breaches: &mut Breaches,
+    rule: CheckKind,
+    name: &Text,
+    others: &[Placed],
+) -> Result<(), NoMemory>
+    ensures { OnOk result (breaches.new ≡ breaches.old ++ again rule name.now others.now) }
+{
+    for p in others {
+        want_true(breaches, !(p.name == *name), p.at, rule)?;
+    }
+    Ok(())
+}
+
+/// Adds each name that stands before too.
+pub(crate) fn want_distinct(
+    breaches: &mut Breaches,
+    rule: CheckKind,
+    names: &[Placed],
+) -> Result<(), NoMemory>
+    ensures { OnOk result (breaches.new ≡ breaches.old ++ twice rule names.now) }
+{
+    let mut left = names;
+    while let [p, others @ ..] = left {
+        want_others(breaches, rule, &p.name, others)?;
+        left = others;
+    }
+    Ok(())
+}
+
+fn rank(rule: CheckKind) -> u32
+    ensures { result ≡ rank rule }
+{
+    match rule {
+        CheckKind::MessageTwice => 0,
+        CheckKind::SagaTwice => 1,
+        CheckKind::FieldTwice => 2,
+        CheckKind::BadCorrelation => 3,
+        CheckKind::BadRevision => 4,
+        CheckKind::UnknownMessage => 5,
+        CheckKind::PartTwice => 6,
+        CheckKind::UnknownField => 7,
+        CheckKind::FieldMissing => 8,
+        CheckKind::NoSaga => 9,
+        CheckKind::SetsCorrelation => 10,
+        CheckKind::NoTimeoutPart => 11,
+        CheckKind::NameTwice => 12,
+        CheckKind::UnknownName => 13,
+        CheckKind::RowName => 14,
+        CheckKind::WrongType => 15,
+        CheckKind::NoMemory => 16,
+    }
+}
+
+fn is_before(a: Breach, b: Breach) -> bool
+    ensures { result ≡ is_before a b }
+{
+    a.at < b.at || (a.at == b.at && rank(a.rule) < rank(b.rule))
+}
+
+/// The breach that no other is before.
+pub(crate) fn first_of(breaches: &[Breach]) -> Option<Breach>
+    ensures { result ≡ first_of breaches.now }
+{
+    let mut best = None;
+    for f in breaches {
+        best = match best {
+            None => Some(*f),
+            Some(b) => Some(if is_before(*f, b) { *f } else { b }),
+        };
+    }
+    best
+}

@@ -1,0 +1,154 @@
+//! A script that breaks no rule, which contracts see as its items.
+ghost use Rattle.std.specs.Prelude.{◌≡◌, ◌<◌, [], true, Some, is_some, length, IfOk, IfErr};
+ghost use Rattle.nb_script.specs.Tree.{script};
+ghost use Rattle.nb_check.specs.Bodies.{Decodes};
+ghost use Rattle.nb_check.specs.Declarations.{messages, sagas};
+ghost use Rattle.nb_check.specs.Fits.{fits, lift, saga_named};
+ghost use Rattle.nb_check.specs.Keys.{same_key};
+ghost use Rattle.nb_check.specs.Rules.{script_faults};
+ghost use Rattle.std.specs.List.{IsDistinct};
+ghost use Rattle.nb_check.specs.Checks.{declared_names, body_fields, blocks_met, keys_read, Refuses, IsUnbroken};
+
+use crate::bodies::{BodyFault, decoded};
+use crate::breach::first_of;
+use crate::fits::{fits_type, lifted, saga_named};
+use crate::key_set::read_set;
+use crate::met::{Blocks, met_numbers};
+use crate::refused::Refused;
+use crate::rules::script_faults;
+use crate::types::{MessageType, SagaType, messages, names_of, sagas};
+use nb_base::{Envelope, Fields, Items, Keys, Names, NoMemory, SagaRow, Text};
+use nb_script::item::Item;
+use sqlite_items::Items as Rows;
+use std::alloc::Global;
+use std::marker::Model;
+
+/// A script that breaks no rule.
+#[derive(Drop)]
+pub struct Checked {
+    items: Rows<Item>,
+    types: Items<MessageType>,
+    names: Names,
+    kinds: Items<SagaType>,
+}
+
+impl Model for Checked {
+    ghost use Rattle.std.specs.Prelude.{List};
+    ghost use Rattle.std.specs.Coded.{codes};
+    ghost use Rattle.nb_script.specs.Tree.{script};
+    ghost use Rattle.nb_script.specs.declared.item.Item.{Item};
+    ghost use Rattle.nb_script.specs.contracts.item.Item as e;
+    ghost use Rattle.nb_check.specs.Checks.{IsChecked};
+
+    ghost Value = { List Item };
+
+    ghost coded = { Prim.hlevel (codes, e.the_row.coded) };
+
+    ghost view = { λ c. c.items };
+
+    ghost invariant = { λ c. IsChecked (script c.items) c.types c.names c.kinds };
+}
+
+/// Ok exactly where the script breaks no rule.
+fn unbroken(alloc: Global, types: &[MessageType], items: &[Item]) -> Result<(), Refused>
+    requires { types.now ≡ messages (script items.now) }
+    ensures { IsUnbroken (script_faults (script items.now)) result }
+{
+    let breaches = script_faults(alloc, types, items)?;
+    match first_of(breaches.as_slice()) {
+        None => Ok(()),
+        Some(breach) => Err(Refused::Broken(breach)),
+    }
+}
+
+impl Checked {
+    /// The script, where it breaks no rule.
+    pub fn of_items(alloc: Global, items: Rows<Item>) -> Result<Checked, Refused>
+        ensures value { IfOk result (λ c. c ≡ items) }
+        ensures rules { IfOk result (λ c. script_faults (script c) ≡ []) }
+        ensures refused { IfErr result (λ e. Refuses (script_faults (script items)) e) }
+    {
+        let types = messages(alloc, items.as_slice())?;
+        unbroken(alloc, types.as_slice(), items.as_slice())?;
+        let names = names_of(alloc, types.as_slice())?;
+        let kinds = sagas(alloc, items.as_slice())?;
+        Ok(Checked {
+            items,
+            types,
+            names,
+            kinds,
+        })
+    }
+
+    /// The items of the script.
+    pub fn items(&self) -> &[Item]
+        ensures value { result.now ≡ self.now }
+        ensures rules { script_faults (script self.now) ≡ [] }
+    {
+        self.items.as_slice()
+    }
+
+    /// The names of the declared messages, in the order of the script.
+    pub fn names(&self) -> &Names
+        ensures { result.now ≡ declared_names (script self.now) }
+    {
+        &self.names
+    }
+
+    /// Whether a stored saga fits its type, where that is declared: its revision lies from 1 to the declared one, and it
+    /// has the kind of the correlation property and exactly the fields that its revision has, in order with their kinds.
+    pub fn fits(&self, saga: &Text, row: &SagaRow) -> bool
+        ensures { result ≡ fits (sagas (script self.now)) saga.now row.now }
+    {
+        match saga_named(saga, self.kinds.as_slice()) {
+            None => true,
+            Some(kind) => fits_type(kind, row),
+        }
+    }
+
+    /// The row with the declared revision and the declared fields in order. A field that the row doesn't have yet has its
+    /// first value.
+    pub fn lift(&self, alloc: Global, saga: &Text, row: &SagaRow) -> Result<SagaRow, NoMemory>
+        requires declared { is_some (saga_named saga.now (sagas (script self.now))) ≡ true }
+        requires fits { fits (sagas (script self.now)) saga.now row.now ≡ true }
+        ensures { IfOk result (λ r. Some r ≡ lift (sagas (script self.now)) saga.now row.now) }
+    {
+        match saga_named(saga, self.kinds.as_slice()) {
+            None => Err(NoMemory),
+            Some(kind) => lifted(alloc, kind, row),
+        }
+    }
+}
+
+/// The fields of a body of the message with this number.
+pub fn decode_body(
+    alloc: Global,
+    c: &Checked,
+    message: u32,
+    body: &Text,
+) -> Result<Fields, BodyFault>
+    requires { message < length (declared_names (script c.now)) }
+    ensures { Decodes result (body_fields (script c.now) message body.now) }
+{
+    match c.types.as_slice().get(message as usize) {
+        Some(declared) => decoded(alloc, declared.fields.as_slice(), body),
+        None => Err(BodyFault::Undecodable),
+    }
+}
+
+/// The numbers of the blocks that a message meets, rising. A block's number counts the handlers and the parts of sagas
+/// that stand before it in the text of the script.
+pub fn meets(alloc: Global, c: &Checked, e: &Envelope) -> Result<Blocks, NoMemory>
+    ensures { IfOk result (λ ns. ns ≡ blocks_met (script c.now) e.now) }
+{
+    met_numbers(alloc, c.items.as_slice(), &c.names, e)
+}
+
+/// The keys that a message reads, each once, in the order of first use. There are none where its body doesn't decode or
+/// it meets no block.
+pub fn keys(alloc: Global, c: &Checked, e: &Envelope) -> Result<Keys, NoMemory>
+    ensures value { IfOk result (λ ks. ks ≡ keys_read (script c.now) e.now) }
+    ensures distinct { IfOk result (λ ks. IsDistinct same_key ks) }
+{
+    read_set(alloc, c.items.as_slice(), c.types.as_slice(), &c.names, e)
+}
