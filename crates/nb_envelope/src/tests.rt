@@ -104,33 +104,32 @@ fn nested(alloc: Global, depth: usize) -> Result<String, Fail> {
     Ok(line)
 }
 
+/// A line with this ignored member.
+fn with_member(alloc: Global, member: &str) -> Result<String, Fail> {
+    let line = format!(in alloc;
+        "{{\"headers\":{{\"NServiceBus.MessageId\":\"m\"}},\"x\":{member}}}"
+    )?;
+    shown(alloc, line.as_bytes())
+}
+
 #[test]
 fn ignored_members_are_tested_too(rt: HostRuntime) -> Result<(), Fail> {
     let alloc = rt.alloc();
-    let read = "NServiceBus.MessageId=m;";
-    for (line, want) in [
-        (
-            "{\"headers\":{\"NServiceBus.MessageId\":\"m\"},\"x\":1e400}",
-            "NotJson",
-        ),
-        (
-            "{\"headers\":{\"NServiceBus.MessageId\":\"m\"},\"x\":1e-999}",
-            read,
-        ),
-        (
-            "{\"headers\":{\"NServiceBus.MessageId\":\"m\"},\"x\":\"\\ud800\"}",
-            "NotJson",
-        ),
-        (
-            "\u{feff}{\"headers\":{\"NServiceBus.MessageId\":\"m\"}}",
-            "NotJson",
-        ),
-    ] {
-        assert_eq!(rt; shown(alloc, line.as_bytes())?.as_str(), want, "in {line}");
-    }
+    assert_eq!(rt; with_member(alloc, "1e400")?.as_str(), "NotJson");
+    assert_eq!(rt;
+        with_member(alloc, "1e-999")?.as_str(),
+        "NServiceBus.MessageId=m;"
+    );
+    assert_eq!(rt; with_member(alloc, "\"\\ud800\"")?.as_str(), "NotJson");
+    Ok(())
+}
+
+#[test]
+fn nesting_ends_at_127_levels(rt: HostRuntime) -> Result<(), Fail> {
+    let alloc = rt.alloc();
     assert_eq!(rt;
         shown(alloc, nested(alloc, 126)?.as_bytes())?.as_str(),
-        read
+        "NServiceBus.MessageId=m;"
     );
     assert_eq!(rt;
         shown(alloc, nested(alloc, 127)?.as_bytes())?.as_str(),
@@ -139,29 +138,47 @@ fn ignored_members_are_tested_too(rt: HostRuntime) -> Result<(), Fail> {
     Ok(())
 }
 
+/// The cell of an envelope with the id `a` and the body `b`.
+fn spelled(alloc: Global) -> Result<Vec<u8>, Fail> {
+    let id = Text::new(alloc, "a")?;
+    if id.is_empty() {
+        return Ok(Vec::new(alloc));
+    }
+    let envelope = Envelope::new(alloc, &id, Text::new(alloc, "b")?)?;
+    let cell = to_cell(alloc, &envelope)?;
+    Ok(cell.into_vec())
+}
+
+/// What a cell is read as: its number of headers and its body, or the reason.
+fn read(alloc: Global, cell: &[u8]) -> Result<String, Fail> {
+    match from_cell(alloc, cell) {
+        Ok(e) => Ok(format!(in alloc; "{} {}", e.headers().len(), e.body().as_str())?),
+        Err(FormatFault::Damaged) => Ok(String::from_str(alloc, "Damaged")?),
+        Err(FormatFault::NoMemory) => Ok(String::from_str(alloc, "NoMemory")?),
+    }
+}
+
 #[test]
 fn an_envelope_has_one_spelling(rt: HostRuntime) -> Result<(), Fail> {
     let alloc = rt.alloc();
-    let id = Text::new(alloc, "a")?;
-    assert!(rt; !id.is_empty());
-    let envelope = Envelope::new(alloc, &id, Text::new(alloc, "b")?)?;
-    let cell = to_cell(alloc, &envelope)?;
-    let want =
-        b"\x00\x00\x00\x01\x00\x00\x00\x15NServiceBus.MessageId\x00\x00\x00\x01a\x00\x00\x00\x01b";
-    assert_eq!(rt; cell.as_slice(), want.as_slice());
-    let again = from_cell(alloc, cell.as_slice())?;
-    assert_eq!(rt; again.headers().len(), 1);
-    assert_eq!(rt; again.body().as_str(), "b");
-    let short = cell.as_slice().split_at(38).0;
-    assert!(rt; matches!(&from_cell(alloc, short), Err(FormatFault::Damaged)));
-    let mut long = Vec::from_slice(alloc, cell.as_slice())?;
-    long.push(0)?;
-    assert!(rt;
-        matches!(
-            &from_cell(alloc, long.as_slice()),
-            Err(FormatFault::Damaged)
-        )
+    let mut cell = spelled(alloc)?;
+    assert_eq!(rt;
+        cell.as_slice(),
+        b"\x00\x00\x00\x01\x00\x00\x00\x15NServiceBus.MessageId\x00\x00\x00\x01a\x00\x00\x00\x01b".as_slice()
     );
+    assert_eq!(rt; read(alloc, cell.as_slice())?.as_str(), "1 b");
+    let last = cell.pop();
+    assert_eq!(rt; last, Some(b'b'));
+    assert_eq!(rt; read(alloc, cell.as_slice())?.as_str(), "Damaged");
+    Ok(())
+}
+
+#[test]
+fn a_byte_more_damages_a_cell(rt: HostRuntime) -> Result<(), Fail> {
+    let alloc = rt.alloc();
+    let mut cell = spelled(alloc)?;
+    cell.push(0)?;
+    assert_eq!(rt; read(alloc, cell.as_slice())?.as_str(), "Damaged");
     Ok(())
 }
 
