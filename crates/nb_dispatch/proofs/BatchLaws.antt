@@ -1,5 +1,5 @@
 -- What every batch keeps.
-use Rattle.std.specs.Prelude.{◌≡◌, ◌≢◌, ℕ, suc, zero, ◌+◌, ◌*◌, ◌^◌, ◌<◌, ◌≤◌, List, [], ◌∷◌, ◌++◌, map, length, Bool, true, false, ◌&&◌, bytes_eq, Option, Some, None, IsSome, cond, refl, nat_lt, nat_le, not, find, option_map, option_to_list, unwrap_or}
+use Rattle.std.specs.Prelude.{◌≡◌, ◌≢◌, ℕ, ◌+◌, ◌*◌, ◌<◌, ◌≤◌, List, [], ◌∷◌, ◌++◌, length, Bool, true, false, ◌&&◌, bytes_eq, Option, Some, None, cond, refl, find, option_map, option_to_list, unwrap_or}
 use Rattle.std.proofs.Common.{◌∙◌, sym, ap, ap₂, subst, arith, append_assoc, length-append, leb-true, lt-ltb}
 use Rattle.std.proofs.lemmas.Fmt.{decimal_is_IsNumeral, decimal_injective}
 use Rattle.std.proofs.lemmas.List.{append_cancel_left}
@@ -8,7 +8,7 @@ use Rattle.std.specs.Fmt.{decimal}
 use Rattle.std.specs.List.{AllByRecursion, list_all}
 use Rattle.std.specs.Str.Parse.{AllDigits}
 use Rattle.nb_base.specs.Messages.{Message, has_id}
-use Rattle.nb_base.specs.SettingsRules.{is_endpoint, is_queue, are_queues, has_length}
+use Rattle.nb_base.specs.SettingsRules.{is_queue, are_queues, has_length}
 use Rattle.nb_base.specs.declared.entry.Op.{Op}
 use Rattle.nb_base.specs.declared.plan.Intent.{Intent}
 use Rattle.nb_base.specs.declared.plan.FromSaga.{FromSaga}
@@ -21,7 +21,7 @@ use Rattle.nb_headers.specs.Outgoing.{outgoing}
 use Rattle.nb_headers.specs.Reads.{id_of}
 use Rattle.nb_headers.specs.declared.made.Made.{Made}
 use Rattle.nb_dispatch.specs.Batches.{AreNumbered, CountUp, TellApart, IsSoundOp, AreRight, AreSound, AreFew}
-use Rattle.nb_dispatch.specs.Dispatches.{made_id, made, route_of, subscribed, queues_of, CanGo, CanDispatch, op_of, ops_to, ops_from, ops_of}
+use Rattle.nb_dispatch.specs.Dispatches.{made_id, made, route_of, subscribed, queues_of, CanGo, CanDispatch, ops_to, ops_from, ops_of}
 use Rattle.nb_dispatch.proofs.OpLaws.{length-ops_to}
 
 -- ---- ids

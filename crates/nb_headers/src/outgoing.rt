@@ -89,7 +89,12 @@ fn common(alloc: Global, incoming: &Envelope, made: &Made) -> Result<Envelope, N
     let time = moment_text(alloc, made.moment)?;
     let body = made.body.copy()?;
     let mut envelope = Envelope::new(alloc, &made.id, body)?;
-    set(alloc, &mut envelope, MESSAGE_INTENT, intent_text(&made.target))?;
+    set(
+        alloc,
+        &mut envelope,
+        MESSAGE_INTENT,
+        intent_text(&made.target),
+    )?;
     relate(alloc, &mut envelope, incoming, made)?;
     name_origin(alloc, &mut envelope, made.endpoint.as_str())?;
     describe(alloc, &mut envelope, made.name.as_str(), time.as_str())?;

@@ -1,6 +1,6 @@
 -- What the copies of a message say.
-use Rattle.std.specs.Prelude.{◌≡◌, ℕ, ◌≤◌, ◌<◌, ◌^◌, List, [], ◌∷◌, Bool, true, false, ◌&&◌, cond, Some, refl, nat_lt, nat_le, length, unwrap_or}
-use Rattle.std.proofs.Common.{◌∙◌, ap, subst, arith, le-leb}
+use Rattle.std.specs.Prelude.{◌≡◌, ℕ, ◌≤◌, ◌<◌, ◌^◌, [], ◌∷◌, Bool, true, false, ◌&&◌, cond, refl, nat_lt, nat_le, length, unwrap_or}
+use Rattle.std.proofs.Common.{◌∙◌, ap, arith, le-leb}
 use Rattle.std.specs.Char.{is_ascii_digit}
 use Rattle.std.specs.Fmt.{decimal}
 use Rattle.std.specs.List.{list_all}
@@ -14,7 +14,7 @@ use Rattle.nb_headers.specs.HeaderNames.{retries, retries_timestamp}
 use Rattle.nb_headers.specs.Moments.{moment_text}
 use Rattle.nb_headers.specs.Reads.{id_of, failed_queue, round_of, round_in}
 use Rattle.nb_headers.proofs.Digits.{own}
-use Rattle.nb_headers.proofs.HeaderFacts.{header-with_headers, id-with_fault, has_id-with_fault, round-with_fault, failed_queue-with_fault}
+use Rattle.nb_headers.proofs.HeaderFacts.{header-with_headers, id-with_fault, has_id-with_fault, failed_queue-with_fault}
 use Rattle.nb_recover.specs.Copies.{retry_pairs, later_copy, error_copy}
 use Rattle.nb_recover.specs.Copied.{KeepIds, CarryRound, NameEndpoint}
 use Rattle.nb_recover.specs.Fails.{name_of, text_of}

@@ -1,7 +1,5 @@
-use Rattle.std.proofs.Common.{◌≡◌, ap, sym}
-use Rattle.std.specs.Prelude.{unwrap_or, [], IfOk}
 use Rattle.nb_headers.specs.Reads.{failed_queue}
-use Rattle.nb_recover.specs.Copies.{returned_to, return_copy}
+use Rattle.nb_recover.specs.Copies.{return_copy}
 use Rattle.nb_recover.proofs.copies.return_copy.Goals as goal
 
 pub returns : goal.returns
