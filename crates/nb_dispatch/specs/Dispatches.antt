@@ -1,5 +1,5 @@
 -- The messages that a commit records to be sent: an op for each queue to which an intent goes.
-use Rattle.std.specs.Prelude.{ℕ, ◌+◌, min, List, [], ◌∷◌, ◌++◌, length, bytes_eq, if◌then◌else◌, Option, option_map}
+use Rattle.std.specs.Prelude.{◌≢◌, IsSome, find, unwrap_or, option_to_list, ℕ, ◌+◌, min, List, [], ◌∷◌, ◌++◌, length, bytes_eq, Option, option_map}
 use Rattle.std.specs.Fmt.{decimal}
 use Rattle.nb_base.specs.Messages.{Message}
 use Rattle.nb_base.specs.declared.entry.Op.{Op}
@@ -29,24 +29,34 @@ saga_id_after endpoint n (Stored id) = id
 abbrev pub sender : List ℕ → ℕ → Option FromSaga → Option SagaName
 sender endpoint n from = option_map (λ (f : FromSaga). record { saga = f.saga; id = saga_id_after endpoint n f.which }) from
 
--- the queue of the message's route, as a list
-abbrev pub routed : List Route → List ℕ → List (List ℕ)
-routed [] name = []
-routed (r ∷ rs) name = if bytes_eq name r.name then r.queue ∷ [] else routed rs name
+-- the queue of the message's route
+abbrev pub route_of : List Route → List ℕ → Option (List ℕ)
+route_of routes name = option_map (λ (r : Route). r.queue) (find (λ (r : Route). bytes_eq name r.name) routes)
 
--- the queues of the message's subscribers
+-- the queues of the message's subscribers, none where it isn't listed
 abbrev pub subscribed : List Subscriber → List ℕ → List (List ℕ)
-subscribed [] name = []
-subscribed (s ∷ ss) name = if bytes_eq name s.name then s.queues else subscribed ss name
+subscribed subscribers name = unwrap_or (option_map (λ (s : Subscriber). s.queues) (find (λ (s : Subscriber). bytes_eq name s.name) subscribers)) []
 
 -- the queues to which a message goes
 abbrev pub queues_of : Settings → Target → List ℕ → List (List ℕ)
-queues_of settings Send name = routed settings.routes name
+queues_of settings Send name = option_to_list (route_of settings.routes name)
 queues_of settings Local name = settings.endpoint ∷ []
 queues_of settings Publish name = subscribed settings.subscribers name
 queues_of settings (Reply to) name = to ∷ []
 queues_of settings (Originator to original) name = to ∷ []
 queues_of settings Timeout name = settings.endpoint ∷ []
+
+-- a message that is sent has a route, an address isn't empty, and a timeout comes from a saga
+abbrev pub CanGo : Settings → List ℕ → Option FromSaga → Target → Type 0
+CanGo settings name from Send = IsSome (route_of settings.routes name)
+CanGo settings name from Local = Unit {0}
+CanGo settings name from Publish = Unit {0}
+CanGo settings name from (Reply to) = to ≢ []
+CanGo settings name from (Originator to original) = to ≢ []
+CanGo settings name from Timeout = IsSome from
+
+abbrev pub CanDispatch : Settings → Intent → Type 0
+CanDispatch settings intent = CanGo settings intent.name intent.from intent.target
 
 -- what is known of the message with this index in the batch
 abbrev pub made : Settings → ℕ → ℕ → Intent → ℕ → Made

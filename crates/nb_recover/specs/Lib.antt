@@ -1,3 +1,4 @@
+pub mod Copied
 pub mod Copies
 pub mod Decisions
 pub mod Fails

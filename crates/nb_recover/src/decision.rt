@@ -28,13 +28,7 @@ fn delay_of(round: u32, increase: u64) -> u64
 /// What is done after a failure by a fault of this name, or by a conflict, whose name is `Conflict`. The entry has failed
 /// so many times, this time included, in this round of delayed retries.
 #[tactic(auto, unfolding(crate::specs::Decisions::decide))]
-pub fn decide(
-    settings: &Settings,
-    name: &str,
-    fails: u32,
-    round: u32,
-    unrecoverable: bool,
-) -> Move
+pub fn decide(settings: &Settings, name: &str, fails: u32, round: u32, unrecoverable: bool) -> Move
     ensures { result ≡ decide settings.now name.now fails round unrecoverable }
 {
     match policy_of(&settings.policies, name) {

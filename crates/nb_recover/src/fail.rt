@@ -24,7 +24,11 @@ impl Fail {
     {
         match self {
             Fail::Fault(fault) => fault.name.as_str(),
-            Fail::Conflict { key: _, seen: _, now: _ } => "Conflict",
+            Fail::Conflict {
+                key: _,
+                seen: _,
+                now: _,
+            } => "Conflict",
         }
     }
 
@@ -44,7 +48,11 @@ impl Fail {
     {
         match self {
             Fail::Fault(fault) => fault.unrecoverable,
-            Fail::Conflict { key: _, seen: _, now: _ } => false,
+            Fail::Conflict {
+                key: _,
+                seen: _,
+                now: _,
+            } => false,
         }
     }
 }

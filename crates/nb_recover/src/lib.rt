@@ -5,6 +5,7 @@
 mod copies;
 mod decision;
 mod fail;
+mod laws;
 mod moves;
 mod returned;
 mod texts;
@@ -12,6 +13,10 @@ mod texts;
 pub use copies::{error_copy, later_copy, return_copy};
 pub use decision::decide;
 pub use fail::Fail;
+pub use laws::law_copies;
 pub use moves::Move;
 pub use returned::Returned;
 pub use texts::{json_text, value_text};
+
+#[cfg(test)]
+mod tests;
