@@ -1,6 +1,6 @@
 -- The ops of a batch: none has an empty queue or no id, and there are at most 4096.
 use Rattle.std.proofs.Common.{◌≡◌, ◌≢◌, ◌+◌, ◌*◌, ◌<◌, ◌≤◌, ℕ, Bool, true, false, cond, refl, ap, arith, List, [], ◌∷◌, ◌++◌, length}
-use Rattle.std.specs.Prelude.{is_some, bytes_eq}
+use Rattle.std.specs.Prelude.{find, unwrap_or, option_map, option_to_list, Some, is_some, bytes_eq}
 use Rattle.std.specs.Fmt.{decimal}
 use Rattle.std.specs.List.{AllByRecursion, list_all}
 use Rattle.std.proofs.lemmas.Bool.{lt-ltb, ltb-true, leb-true}
@@ -17,7 +17,7 @@ use Rattle.nb_base.specs.declared.route.Route.{Route}
 use Rattle.nb_base.specs.declared.route.Subscriber.{Subscriber}
 use Rattle.nb_base.specs.declared.settings.Settings.{Settings}
 use Rattle.nb_headers.specs.Outgoing.{outgoing}
-use Rattle.nb_dispatch.specs.Dispatches.{made_id, made, ops_to, ops_from, ops_of, queues_of, routed, subscribed}
+use Rattle.nb_dispatch.specs.Dispatches.{made_id, made, ops_to, ops_from, ops_of, queues_of, route_of, subscribed}
 use Rattle.nb_core.proofs.Copies.{ranges}
 use Rattle.nb_core.proofs.Firsts.{both_true}
 pub use Rattle.nb_core.specs.Facts.{CanPut}
@@ -46,12 +46,15 @@ outgoing_named incoming settings n at intent index = lt-ltb 0 (length (made_id s
 AreSome : List (List ℕ) → Type 0
 AreSome qs = AllByRecursion (λ q. q ≢ []) qs
 
-routed_some : (rs : List Route) (name : List ℕ) → list_all (λ (r : Route). is_queue r.queue) rs ≡ true → AreSome (routed rs name) × (length (routed rs name) ≤ 16)
+routed_some : (rs : List Route) (name : List ℕ) → list_all (λ (r : Route). is_queue r.queue) rs ≡ true → AreSome (option_to_list (route_of rs name)) × (length (option_to_list (route_of rs name)) ≤ 16)
 unfolding AreSome
 routed_some [] name h = (tt, omega arith)
 routed_some (r ∷ rs) name h = go (routed_some rs name (both_true _ _ h).1) (bytes_eq name r.name)
   where
-    go : AreSome (routed rs name) × (length (routed rs name) ≤ 16) → (b : Bool) → AreSome (cond b (r.queue ∷ []) (routed rs name)) × (length (cond b (r.queue ∷ []) (routed rs name)) ≤ 16)
+    found : Bool → List (List ℕ)
+    found b = option_to_list (option_map (λ (x : Route). x.queue) (cond b (Some r) (find (λ (x : Route). bytes_eq name x.name) rs)))
+
+    go : AreSome (option_to_list (route_of rs name)) × (length (option_to_list (route_of rs name)) ≤ 16) → (b : Bool) → AreSome (found b) × (length (found b) ≤ 16)
     go rest true = ((queue_some r.queue (both_true _ _ h).0, tt), omega arith)
     go rest false = rest
 
@@ -65,7 +68,10 @@ unfolding AreSome
 subscribed_some [] name h = (tt, omega arith)
 subscribed_some (s ∷ ss) name h = go (subscribed_some ss name (both_true _ _ h).1) (bytes_eq name s.name)
   where
-    go : AreSome (subscribed ss name) × (length (subscribed ss name) ≤ 16) → (b : Bool) → AreSome (cond b s.queues (subscribed ss name)) × (length (cond b s.queues (subscribed ss name)) ≤ 16)
+    found : Bool → List (List ℕ)
+    found b = unwrap_or (option_map (λ (x : Subscriber). x.queues) (cond b (Some s) (find (λ (x : Subscriber). bytes_eq name x.name) ss))) []
+
+    go : AreSome (subscribed ss name) × (length (subscribed ss name) ≤ 16) → (b : Bool) → AreSome (found b) × (length (found b) ≤ 16)
     go rest true =
         let q = both_true _ _ (both_true _ _ h).0 in
         let r = both_true _ _ q.0 in

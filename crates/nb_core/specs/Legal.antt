@@ -1,17 +1,17 @@
 -- Legal histories.
-use Rattle.std.specs.Prelude.{◌≡◌, Bool, true, false, ℕ, ◌+◌, ◌<◌, max, List, [], ◌∷◌, ◌++◌}
+use Rattle.std.specs.Prelude.{◌≡◌, Bool, true, false, ℕ, ◌+◌, ◌<◌, max, List, [], ◌∷◌, ◌++◌, Some}
 use Rattle.std.specs.List.{AllByRecursion}
 use Rattle.nb_base.specs.Meanings.{IsAmong, AllFit}
 use Rattle.nb_base.specs.Shown.{stored}
 use Rattle.nb_base.specs.Sound.{IsSoundTables, IsSoundPost}
-use Rattle.nb_dispatch.specs.Dispatches.{routed}
+use Rattle.nb_dispatch.specs.Dispatches.{route_of}
 use Rattle.nb_core.specs.State.{State, Constants}
 use Rattle.nb_core.specs.Step.{Event, Load, Take, Look, Settle, Send, Mark, Aside, Remove, Tick, Release, Purge, PutBack, DropBack, Stop, Halt}
 use Rattle.nb_core.specs.History.{Opening, History, Run, opened}
 
 -- the settings have a route for each message that the script sends
 abbrev pub HasRoutes : Constants → Type 0
-HasRoutes c = (name : List ℕ) → IsAmong name c.meaning.sends → (queue : List ℕ) × (routed c.settings.routes name ≡ queue ∷ [])
+HasRoutes c = (name : List ℕ) → IsAmong name c.meaning.sends → (queue : List ℕ) × (route_of c.settings.routes name ≡ Some queue)
 
 -- the stores are sound, and the stored sagas fit the script
 pub record IsSound (c : Constants) (o : Opening) : Type 0 where
