@@ -1,4 +1,4 @@
-use crate::{Store, StoreFault};
+use crate::{Store, StoreFault, StoreRefusal};
 use nb_base::{Bytes, Items, Key, Keys, NoMemory, Seen, Text};
 use nb_cells::{Cell, CellList, FaultPlan, MemCells};
 use std::alloc::Global;
@@ -35,6 +35,26 @@ fn five(alloc: Global, space: u8, key: &[u8], bytes: &[u8]) -> Result<MemCells, 
     add(alloc, &mut cells, 4, b"c1", SENT)?;
     add(alloc, &mut cells, space, key, bytes)?;
     MemCells::new(alloc, cells, FaultPlan::none(alloc))
+}
+
+/// The place that is named as damaged.
+fn damaged(alloc: Global, space: u8, key: &[u8], bytes: &[u8]) -> Result<(u8, Bytes), NoMemory> {
+    match Store::start(alloc, five(alloc, space, key, bytes)?) {
+        Ok(_) => Ok((0, Bytes::new(alloc, b"")?)),
+        Err(refusal) => {
+            let StoreRefusal { fault, .. } = refusal;
+            match fault {
+                StoreFault::Damaged { space, key } => Ok((space, key)),
+                _ => Err(NoMemory),
+            }
+        }
+    }
+}
+
+/// Whether this place is named as damaged.
+fn is_damaged(alloc: Global, space: u8, key: &[u8], bytes: &[u8]) -> Result<bool, NoMemory> {
+    let named = damaged(alloc, space, key, bytes)?;
+    Ok(named.0 == space && named.1.as_slice() == key)
 }
 
 /// The tables of the five cells.
@@ -106,5 +126,24 @@ fn a_sent_record_goes(rt: HostRuntime) -> Result<(), Fail> {
     let id = Text::new(alloc, "c1")?;
     assert!(rt; purged(alloc, &mut store, &id)?);
     assert!(rt; !purged(alloc, &mut store, &id)?);
+    Ok(())
+}
+
+#[test]
+fn the_least_cell_outside_the_bounds_is_named(rt: HostRuntime) -> Result<(), Fail> {
+    let alloc = rt.alloc();
+    // a version above the count
+    assert!(rt;
+        is_damaged(
+            alloc,
+            3,
+            b"bob",
+            b"\x01\0\0\0\0\0\0\0\x03\0\0\0\0\0\0\0\x05"
+        )?
+    );
+    // a number that another record has
+    assert!(rt; is_damaged(alloc, 4, b"c2", SENT)?);
+    // an id that another saga has
+    assert!(rt; is_damaged(alloc, 2, b"\0\0\0\x05Order\x02\0\0\0\x03A-2", SAGA)?);
     Ok(())
 }
