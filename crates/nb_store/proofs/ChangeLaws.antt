@@ -23,7 +23,7 @@ pub one_is_distinct : (c : Change) → AreDistinct (c ∷ [])
 unfolding IsDistinct
 one_is_distinct c = (tt, tt)
 
-alone_id : {V : Type 0} (id : List ℕ) (es : List (List ℕ × V)) → IsAlone names (λ n. n) id es
+pub alone_id : {V : Type 0} (id : List ℕ) (es : List (List ℕ × V)) → IsAlone names (λ n. n) id es
 alone_id id [] = tt
 alone_id id (e ∷ es) = (λ same. same, alone_id id es)
 

@@ -124,11 +124,12 @@ within : (n most : ℕ) → (nat_le 1 n && nat_le n most) ≡ true → IsVersion
 within n most e = let b = both (nat_le 1 n) (nat_le n most) e in (leb-true 1 n b.0, leb-true n most b.1)
 
 pub version_some : (commits n : ℕ) (text : List ℕ) (r : Bool) → r ≡ (nat_le 1 n && nat_le n commits) → text ≡ decimal n → n < 2 ^ 64 → commits < 2 ^ 64 → IsTrue r ↔ ((m : ℕ) × IsVersion commits m × (text ≡ decimal m))
-version_some commits n text r is at short bound =
-    (λ yes. (n, within n commits (sym is ∙ from_true r yes), at),
-     λ (m, version, named).
-         let same : n ≡ m = decimal_injective n m short (omega (arith, version.1)) (sym at ∙ named) in
-         to_true r (is ∙ rw same (rw (le-leb 1 m version.0, le-leb m commits version.1) refl)))
+version_some commits n text r is at short bound = (
+  λ yes. (n, within n commits (sym is ∙ from_true r yes), at),
+  λ (m, version, named).
+      let same : n ≡ m = decimal_injective n m short (omega (arith, version.1)) (sym at ∙ named) in
+      to_true r (is ∙ rw same (rw (le-leb 1 m version.0, le-leb m commits version.1) refl)),
+)
 
 pub version_none : (commits : ℕ) (text : List ℕ) → ((n : ℕ) → 1 ≤ n → n < 2 ^ 64 → text ≢ decimal n) → commits < 2 ^ 64 → IsTrue false ↔ ((m : ℕ) × IsVersion commits m × (text ≡ decimal m))
 version_none commits text none bound = (λ yes. absurd (true≢false (sym (from_true false yes))), λ (m, version, named). absurd (none m version.0 (omega (arith, version.1)) named))
@@ -143,6 +144,7 @@ id_some commits id front index text number r last no_index first no_number bound
     there : (b : Bool) → is_index index ≡ b → IsTrue r → IsSagaId commits id
     there true e t = let v = (holds e).0 t in (text, v.0, index, last ∙ ap (λ (f : List ℕ). f ++ 47 ∷ index) (first ∙ ap (λ (d : List ℕ). text ++ 47 ∷ d) v.2), v.1, e)
     there false e t = absurd (true≢false (sym (from_true r t) ∙ none e))
+
     back : IsSagaId commits id → IsTrue r
     back (t, n, i, is, version, index_is) =
         let outer = unique front (t ++ 47 ∷ decimal n) index i no_index (digits_apart i (index_parts i index_is).digits) (sym last ∙ is) in

@@ -3,3 +3,4 @@ pub mod ChangeLaws
 pub mod KeptLaws
 pub mod IdLaws
 pub mod OpenLaws
+pub mod CellLaws

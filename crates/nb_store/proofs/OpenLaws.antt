@@ -50,6 +50,7 @@ sound_saga t ids s place r is fit at = go (same_or_other places place (place_of 
   where
     this : IsSoundSaga t.commits (place_of s) s.row
     this = record { corr = refl; kind = fit.spelled.place.2; id = fit.id; version = fit.version; revision = fit.spelled.row.revision.0; fields = fit.spelled.row.fields.1 }
+
     go : (place ≡ place_of s) ⊎ (place ≢ place_of s) → IsSoundSaga t.commits place r
     go (inl same) =
         let row_is : s.row ≡ r = inside s.row r (sym (at_same places t.sagas (place_of s) s.row) ∙ ap (map.get (map.insert t.sagas (place_of s) s.row)) (sym same) ∙ at) in
@@ -85,8 +86,10 @@ index_saga t ids s index fit = record {
     found place r (new place_is row_is) =
         ap (map.get (map.insert ids s.row.id (place_of s))) (ap (λ (x : SagaRow). x.id) row_is) ∙ at_same names ids s.row.id (place_of s) ∙ ap (λ p. Some p) (sym place_is)
     found place r (old at) = at_other names ids s.row.id (place_of s) r.id (fit.new_id place r at) ∙ index.found place r at
+
     apart : (place : SagaKey) (r : SagaRow) → map.get t.sagas place ≡ Some r → place ≢ place_of s
     apart place r at same = clash r (sym fit.new ∙ ap (map.get t.sagas) (sym same) ∙ at)
+
     only : (id : List ℕ) (place : SagaKey) → map.get (map.insert ids s.row.id (place_of s)) id ≡ Some place → (id ≡ s.row.id) ⊎ (id ≢ s.row.id) → (r : SagaRow) × (map.get (map.insert t.sagas (place_of s) s.row) place ≡ Some r) × (r.id ≡ id)
     only id place at (inl same) =
         let here : place_of s ≡ place = inside (place_of s) place (sym (at_same names ids s.row.id (place_of s)) ∙ ap (map.get (map.insert ids s.row.id (place_of s))) (sym same) ∙ at) in
@@ -222,7 +225,12 @@ sound_record : (t : Tables) (k : List ℕ) (s : OutboxRow) → IsFitRecord t k s
 sound_record t k s fit sound id r (that at) = sound id r at
 sound_record t k s fit sound id r (this id_is r_is) =
     subst (λ i. IsSoundRecord t.commits i r) (sym id_is) (subst (λ x. IsSoundRecord t.commits k x) (sym r_is) (record {
-      named = fit.named.1; number = fit.number; few = fit.few; queues = record_queues s fit.spelled; ids = op_ids s.ops fit.spelled.ops.1; sent = fit.spelled.sent;
+      named = fit.named.1;
+      number = fit.number;
+      few = fit.few;
+      queues = record_queues s fit.spelled;
+      ids = op_ids s.ops fit.spelled.ops.1;
+      sent = fit.spelled.sent;
     }))
 
 numbers_record : (t : Tables) (k : List ℕ) (s : OutboxRow) → IsFitRecord t k s → ((i j : List ℕ) (a b : OutboxRow) → map.get t.outbox i ≡ Some a → map.get t.outbox j ≡ Some b → a.n ≡ b.n → i ≡ j)
@@ -241,8 +249,10 @@ numbered_record t ns k s is fit = record {
     found : (id : List ℕ) (r : OutboxRow) → WhereRecord t k s id r → map.get (map.insert ns s.n k) r.n ≡ Some id
     found id r (this id_is r_is) = ap (map.get (map.insert ns s.n k)) (ap (λ (x : OutboxRow). x.n) r_is) ∙ at_same numbers ns s.n k ∙ ap (λ (i : List ℕ). Some i) (sym id_is)
     found id r (that at) = at_other numbers ns s.n k r.n (fit.new_number id r at) ∙ is.found id r at
+
     apart : (id : List ℕ) (r : OutboxRow) → map.get t.outbox id ≡ Some r → id ≢ k
     apart id r at same = clash r (sym fit.new ∙ ap (map.get t.outbox) (sym same) ∙ at)
+
     only : (n : ℕ) (id : List ℕ) → map.get (map.insert ns s.n k) n ≡ Some id → (n ≡ s.n) ⊎ (n ≢ s.n) → (r : OutboxRow) × (map.get (map.insert t.outbox k s) id ≡ Some r) × (r.n ≡ n)
     only n id at (inl same) =
         let here : k ≡ id = inside k id (sym (at_same numbers ns s.n k) ∙ ap (map.get (map.insert ns s.n k)) (sym same) ∙ at) in
@@ -377,7 +387,7 @@ damaged_reads p q c NoMemory is bad = tt
 
 -- ---- nothing read yet
 
-no_entries : {K V : Type 0} (R : K → K → Ordering) → map.entries (map.empty {X = V} {R = R}) ≡ []
+pub no_entries : {K V : Type 0} (R : K → K → Ordering) → map.entries (map.empty {X = V} {R = R}) ≡ []
 no_entries R = nil_from_length _ (sym (map.len-entries _) ∙ map.len-empty R _)
 
 none_there : {K V : Type 0} (R : K → K → Ordering) (k : K) (v : V) → map.get (map.empty {R = R}) k ≡ Some v → ⊥

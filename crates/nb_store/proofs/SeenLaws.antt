@@ -120,6 +120,7 @@ with_id-absent saga id sagas ids index at = go (with_id saga id (map.entries sag
   where
     clash : {A : Type 0} (x : A) → Some x ≡ None → ⊥
     clash x e = cc
+
     go : (r : Option SagaRow) → with_id saga id (map.entries sagas) ≡ r → with_id saga id (map.entries sagas) ≡ None
     go None e = e
     go (Some row) e =

@@ -7,8 +7,8 @@ ghost use Rattle.nb_store.specs.Opening.{IsOpen};
 
 use crate::parts::Parts;
 use nb_base::{
-    ByName, Copied, Items, Key, Keys, NoMemory, OutboxRow, Read, Reads, Row, SagaKey, SagaRow, Seen,
-    Tables, Text, Value,
+    ByName, Copied, Items, Key, Keys, NoMemory, OutboxRow, Read, Reads, Row, SagaKey, SagaRow,
+    Seen, Tables, Text, Value,
 };
 use std::alloc::Global;
 use std::marker::Model;
@@ -23,7 +23,6 @@ pub struct Kept {
 impl Model for Kept {
     ghost use Rattle.nb_base.specs.declared.tables.Tables.{Tables};
     ghost use Rattle.nb_store.specs.Kept.{IsKept};
-
     ghost use Rattle.nb_base.specs.contracts.tables.Tables as tables_type;
 
     ghost Value = { Tables };

@@ -12,3 +12,6 @@ mod store;
 
 pub use fault::StoreFault;
 pub use store::{Store, StoreClosed, StoreRefusal};
+
+#[cfg(test)]
+mod tests;

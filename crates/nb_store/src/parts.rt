@@ -70,13 +70,7 @@ fn whole_u64(bytes: &[u8]) -> Option<u64>
     ensures { result ≡ whole u64_in bytes.now }
 {
     match take_u64(bytes) {
-        Ok((n, rest)) => {
-            if rest.is_empty() {
-                Some(n)
-            } else {
-                None
-            }
-        }
+        Ok((n, rest)) => { if rest.is_empty() { Some(n) } else { None } }
         Err(_) => None,
     }
 }

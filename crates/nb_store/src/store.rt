@@ -8,6 +8,7 @@ ghost use Rattle.nb_store.specs.Applied.{Applied, IsCounted, IsOfApply};
 ghost use Rattle.nb_base.specs.Causes.{Rose};
 ghost use Rattle.nb_cells.specs.Cells.{CellMap};
 ghost use Rattle.nb_store.specs.Calls.{purged};
+ghost use Rattle.nb_store.specs.CellMaps.{HasCells};
 ghost use Rattle.nb_store.specs.Scanning.{ScansAll, Opens, Refuses};
 ghost use Rattle.nb_store.specs.declared.fault.StoreFault.TheVariants.{Failed};
 
@@ -49,6 +50,7 @@ fn open<D: Cells>(alloc: Global, base: &mut D) -> Result<Kept, StoreFault>
     ensures kept { (m : CellMap) → D.honest base.new → D.firm base.old → D.now base.old m → D.now base.new m }
     ensures images { (n : CellMap) → D.honest base.new → D.images base.new n → D.images base.old n }
     ensures opened { (m : CellMap) → D.honest base.new → D.firm base.old → D.now base.old m → MatchResult result (Opens m) (Refuses m) }
+    ensures sound { IfOk result (λ t. IsSoundTables t) }
     ensures cause { IsCounted (D.count base.old) (D.count base.new) result }
 {
     let cells = scan_all(alloc, base)?;
@@ -58,6 +60,7 @@ fn open<D: Cells>(alloc: Global, base: &mut D) -> Result<Kept, StoreFault>
 /// The tables for which the cells stand.
 fn read_cells(alloc: Global, cells: &Scanned) -> Result<Kept, StoreFault>
     ensures opened { (m : CellMap) → ScansAll m cells.now → MatchResult result (Opens m) (Refuses m) }
+    ensures sound { IfOk result (λ t. IsSoundTables t) }
     ensures answers { IfErr result (λ e. e ≢ Failed) }
 {
     let mut parts = Parts::new(alloc);
@@ -69,12 +72,16 @@ fn read_cells(alloc: Global, cells: &Scanned) -> Result<Kept, StoreFault>
 
 impl<D: Cells> Store<D> {
     /// The tables whose cells the store has. It is handed back where it is refused.
+    #[tactic(auto, using(crate::proofs::CellLaws::opens_cells))]
     pub fn start(alloc: Global, base: D) -> Result<Store<D>, StoreRefusal<D>>
         ensures honest_before { MatchResult result (λ s. D.honest s.base → D.honest base) (λ r. D.honest r.base → D.honest base) }
         ensures kept_firm { MatchResult result (λ s. D.honest s.base → D.firm base → D.firm s.base) (λ r. D.honest r.base → D.firm base → D.firm r.base) }
         ensures kept { (m : CellMap) → MatchResult result (λ s. D.honest s.base → D.firm base → D.now base m → D.now s.base m) (λ r. D.honest r.base → D.firm base → D.now base m → D.now r.base m) }
         ensures images { (n : CellMap) → MatchResult result (λ s. D.honest s.base → D.images s.base n → D.images base n) (λ r. D.honest r.base → D.images r.base n → D.images base n) }
         ensures opened { (m : CellMap) → MatchResult result (λ s. D.honest s.base → D.firm base → D.now base m → Opens m s.tables) (λ r. D.honest r.base → D.firm base → D.now base m → Refuses m r.fault) }
+        // The cells of the tables are those that the store tells.
+        ensures cells { (m : CellMap) → IfOk result (λ s. D.honest s.base → D.firm base → D.now base m → HasCells m s.tables) }
+        ensures sound { IfOk result (λ s. IsSoundTables s.tables) }
         ensures later { MatchResult result (λ s. D.count base ≤ D.count s.base) (λ r. D.count base ≤ D.count r.base) }
         ensures failed { IfErr result (λ r. r.fault ≡ Failed → Rose (D.count base) (D.count r.base)) }
     {
