@@ -2,3 +2,4 @@ pub mod FormatLaws
 pub mod CellLaws
 pub mod PostLaws
 pub mod OpeningLaws
+pub mod OpenedLaws

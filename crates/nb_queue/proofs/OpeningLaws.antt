@@ -30,7 +30,7 @@ use Rattle.nb_queue.proofs.FormatLaws.{format_entry, format_next}
 differ : {A : Type 0} (o : Option A) (x : A) → o ≡ None → o ≡ Some x → ⊥
 differ o x e f = cc
 
-same : {A : Type 0} (o : Option A) (x y : A) → o ≡ Some x → o ≡ Some y → x ≡ y
+pub same : {A : Type 0} (o : Option A) (x y : A) → o ≡ Some x → o ≡ Some y → x ≡ y
 same o x y e f = cc
 
 -- what a whole reading says of a value's spelling
@@ -63,7 +63,7 @@ pub refused_at : (P : Cell → Type 0) (space : ℕ) (cells : List Cell) (i : �
 refused_at P space cells i c f (inl none) at bad good = subst (IsRefusedFor P space cells) (sym none) tt
 refused_at P space cells i c f (inr is) at bad good = subst (IsRefusedFor P space cells) (sym is) (refl, (i, c, at, refl, bad, good))
 
-nowhere : (c : Cell) → Contains [] c → ⊥
+pub nowhere : (c : Cell) → Contains [] c → ⊥
 nowhere c has = let lt = has.1 in omega arith
 
 pub loaded_none : (next : ℕ) (entries : ByNumber Queued) → entries ≡ map.empty → AreLoaded next entries []

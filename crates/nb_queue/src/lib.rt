@@ -10,4 +10,4 @@ mod read;
 mod take;
 
 pub use fault::PostFault;
-pub use post::{LIMIT, Post, PostClosed};
+pub use post::{LIMIT, Post, PostClosed, PostRefusal};

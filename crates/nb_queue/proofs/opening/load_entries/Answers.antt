@@ -8,7 +8,7 @@ loop-i-init c = loaded_none c.args.next _ c.new-entries.ensures
 
 pub returns-in_default-clause-err : goal.returns-in_default-clause-err
 returns-in_default-clause-err c =
-    refused_at (IsSomeEntry c.args.next) 2 c.args.cells.now c.loop-i.i c.at-cell.result.now _ c.damage.ensures c.at-cell.ensures (rw c.in_default.is at c.in_ok-number.ensures)
+    refused_at (IsSomeEntry c.args.next) 2 c.args.cells.now c.loop-i.i c.at-cell.result.now _ c.damage.ensures.value c.at-cell.ensures (rw c.in_default.is at c.in_ok-number.ensures)
     (λ d has. let e = c.loop-i.invariant.each d has in (e.0, e.1, e.2))
 
 pub loop-i-preserved : goal.loop-i-preserved

@@ -1,0 +1,8 @@
+use Rattle.nb_queue.proofs.OpenedLaws.{post_opened, opened_cells}
+use Rattle.nb_queue.proofs.post.Post.start.Goals as goal
+
+pub invariant_of-result : goal.invariant_of-result
+invariant_of-result g c = post_opened c.in-Ok-load.state _ _ _ _ c.in-Ok-load.ensures.ok
+
+pub returns-in-Ok-load-clause-ok : goal.returns-in-Ok-load-clause-ok
+returns-in-Ok-load-clause-ok g c = λ m honest firm told stays. opened_cells m c.in-Ok-load.state _ _ _ _ (c.in-Ok.ensures.ok m honest firm told) c.in-Ok-load.ensures.ok stays
