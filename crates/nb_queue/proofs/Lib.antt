@@ -3,3 +3,4 @@ pub mod CellLaws
 pub mod PostLaws
 pub mod OpeningLaws
 pub mod OpenedLaws
+pub mod DamageLaws

@@ -40,11 +40,11 @@ none_if None h = refl
 none_if (Some b) h = absurd (h b refl)
 
 -- a space whose scan is empty has no cells
-none_in : (m : CellMap) (space : ℕ) (cells : List Cell) → Scans m space cells → cells ≡ [] → (key : List ℕ) → m space key ≡ None
+pub none_in : (m : CellMap) (space : ℕ) (cells : List Cell) → Scans m space cells → cells ≡ [] → (key : List ℕ) → m space key ≡ None
 none_in m space cells scans none key = none_if (m space key) (λ b is. nowhere _ (subst (λ xs. Contains xs (record { space = space; key = key; bytes = b })) none (scans.complete key b is)))
 
 -- what the map has where the scan has a cell
-told_at : (m : CellMap) (space : ℕ) (cells : List Cell) → Scans m space cells → (c : Cell) → Contains cells c → m space c.key ≡ Some c.bytes
+pub told_at : (m : CellMap) (space : ℕ) (cells : List Cell) → Scans m space cells → (c : Cell) → Contains cells c → m space c.key ≡ Some c.bytes
 told_at m space cells scans c has = (All-contains (λ c. (c.space ≡ space) × (m space c.key ≡ Some c.bytes)) cells c scans.sound has).1
 
 not_one : (n : ℕ) → 2 ≤ n → (n == 1) ≡ false
@@ -54,7 +54,7 @@ not_one n le = go (n == 1) refl
     go true e = absurd (let one = eqb-true n 1 e in omega arith)
     go false e = e
 
-next_told : (m : CellMap) (next : ℕ) (cells : List Cell) → Scans m 1 cells → TellsNext cells next → (key : List ℕ) → m 1 key ≡ next_bytes next key
+pub next_told : (m : CellMap) (next : ℕ) (cells : List Cell) → Scans m 1 cells → TellsNext cells next → (key : List ℕ) → m 1 key ≡ next_bytes next key
 next_told m next cells scans (inl none) [] = none_in m 1 cells scans none.0 [] ∙ sym (ap (λ n. cond (n == 1) None (Some (spelled_next n))) none.1)
 next_told m next cells scans (inl none) (b ∷ key) = none_in m 1 cells scans none.0 (b ∷ key)
 next_told m next cells scans (inr some) [] =
@@ -67,7 +67,7 @@ next_told m next cells scans (inr some) (b ∷ key) =
       | inr here ↦ let empty : b ∷ key ≡ [] = sym (ap (λ c. c.key) here) ∙ some.2.key_is in cc
     ])
 
-absent : (o : Option (List ℕ)) (b : List ℕ) → o ≡ None → o ≡ Some b → ⊥
+pub absent : (o : Option (List ℕ)) (b : List ℕ) → o ≡ None → o ≡ Some b → ⊥
 absent o b e f = cc
 
 found : (o : Option Queued) → IsSome o → (e : Queued) × (o ≡ Some e)

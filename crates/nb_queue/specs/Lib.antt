@@ -4,3 +4,4 @@ pub mod Maps
 pub mod Stands
 pub mod Changes
 pub mod Opening
+pub mod Damage

@@ -4,6 +4,7 @@ ghost use Rattle.std.specs.FinMap as map;
 ghost use Rattle.std.specs.Prelude.{◌≤◌, IfErr};
 ghost use Rattle.nb_base.specs.Causes.{Rose};
 ghost use Rattle.nb_cells.specs.Cells.{CellMap};
+ghost use Rattle.nb_queue.specs.Damage.{IsFound};
 ghost use Rattle.nb_queue.specs.Maps.{cells_of};
 ghost use Rattle.nb_queue.specs.Opening.{StaysInSpaces};
 ghost use Rattle.nb_queue.specs.Stands.{with_entry, without_entry, Leaves, IsCaused};
@@ -58,7 +59,7 @@ impl<P: Cells + Drop> Post<P> {
         ensures ok { (m : CellMap) → IfOk result (λ p. P.honest p.0 → P.firm cells → P.now cells m → StaysInSpaces m → m ≡ cells_of p.1) }
         ensures kept { IfOk result (λ p. (m : CellMap) → P.honest p.0 → P.firm cells → P.now cells m → P.now p.0 m × P.firm p.0) }
         ensures images { IfOk result (λ p. (n : CellMap) → P.honest p.0 → P.images p.0 n → P.images cells n) }
-        ensures refused { IfErr result (λ r. (m : CellMap) → P.honest r.cells → P.firm cells → P.now cells m → P.now r.cells m × P.firm r.cells) }
+        ensures refused { IfErr result (λ r. (m : CellMap) → P.honest r.cells → P.firm cells → P.now cells m → P.now r.cells m × P.firm r.cells × IsFound m r.fault) }
         ensures refused_images { IfErr result (λ r. (n : CellMap) → P.honest r.cells → P.images r.cells n → P.images cells n) }
         ensures never_spent { IfErr result (λ r. r.fault ≢ PostFault.Spent) }
         ensures cause { IfErr result (λ r. (P.count cells ≤ P.count r.cells) × (r.fault ≡ PostFault.Failed → Rose (P.count cells) (P.count r.cells))) }
