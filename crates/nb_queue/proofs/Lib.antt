@@ -4,3 +4,4 @@ pub mod PostLaws
 pub mod OpeningLaws
 pub mod OpenedLaws
 pub mod DamageLaws
+pub mod ListedLaws

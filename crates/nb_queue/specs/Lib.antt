@@ -5,3 +5,4 @@ pub mod Stands
 pub mod Changes
 pub mod Opening
 pub mod Damage
+pub mod Listed

@@ -3,6 +3,7 @@
 
 mod changes;
 mod fault;
+mod listed;
 mod opening;
 mod post;
 mod put;

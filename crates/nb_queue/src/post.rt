@@ -5,14 +5,16 @@ ghost use Rattle.std.specs.Prelude.{◌≤◌, IfErr};
 ghost use Rattle.nb_base.specs.Causes.{Rose};
 ghost use Rattle.nb_cells.specs.Cells.{CellMap};
 ghost use Rattle.nb_queue.specs.Damage.{IsFound};
+ghost use Rattle.nb_queue.specs.Listed.{standing};
 ghost use Rattle.nb_queue.specs.Maps.{cells_of};
 ghost use Rattle.nb_queue.specs.Opening.{StaysInSpaces};
 ghost use Rattle.nb_queue.specs.Stands.{with_entry, without_entry, Leaves, IsCaused};
 
 use crate::changes::{put_changes, remove_changes};
 use crate::fault::PostFault;
+use crate::listed::standing;
 use crate::opening::{load, scan_all};
-use nb_base::{Copied, Envelope, Moment, PostState, Queued, Text};
+use nb_base::{Copied, Entries, Envelope, Moment, NoMemory, PostState, Queued, Text};
 use nb_cells::{CellFault, Cells};
 use std::alloc::Global;
 use std::marker::Model;
@@ -150,6 +152,13 @@ impl<P: Cells + Drop> Post<P> {
             Err(CellFault::Failed) => Err(PostFault::Failed),
             Err(CellFault::NoMemory) => Err(PostFault::NoMemory),
         }
+    }
+
+    /// The entries that stand in a queue, by their numbers.
+    pub fn list(&self, alloc: Global, queue: &Text) -> Result<Entries, NoMemory>
+        ensures { IfOk result (λ list. list ≡ standing queue.now self.now.1.entries) }
+    {
+        standing(alloc, queue, &self.state.entries)
     }
 
     /// The store, and what stood in the queues.
