@@ -5,3 +5,4 @@ pub mod OpeningLaws
 pub mod OpenedLaws
 pub mod DamageLaws
 pub mod ListedLaws
+pub mod CopyLaws

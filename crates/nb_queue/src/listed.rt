@@ -40,3 +40,17 @@ pub(crate) fn standing(
     }
     Ok(list)
 }
+
+/// A copy of the entries.
+pub(crate) fn copied(
+    alloc: Global,
+    entries: &ByNumber<Queued>,
+) -> Result<ByNumber<Queued>, NoMemory>
+    ensures { IfOk result (λ copy. copy ≡ entries.now) }
+{
+    let mut copy = ByNumber::new(alloc);
+    for (number, entry) in entries.iter() {
+        copy.insert(*number, entry.copy()?)?;
+    }
+    Ok(copy)
+}

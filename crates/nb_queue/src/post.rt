@@ -12,7 +12,7 @@ ghost use Rattle.nb_queue.specs.Stands.{with_entry, without_entry, Leaves, IsCau
 
 use crate::changes::{put_changes, remove_changes};
 use crate::fault::PostFault;
-use crate::listed::standing;
+use crate::listed::{copied, standing};
 use crate::opening::{load, scan_all};
 use nb_base::{Copied, Entries, Envelope, Moment, NoMemory, PostState, Queued, Text};
 use nb_cells::{CellFault, Cells};
@@ -159,6 +159,17 @@ impl<P: Cells + Drop> Post<P> {
         ensures { IfOk result (λ list. list ≡ standing queue.now self.now.1.entries) }
     {
         standing(alloc, queue, &self.state.entries)
+    }
+
+    /// All that stands in the queues.
+    pub fn all(&self, alloc: Global) -> Result<PostState, NoMemory>
+        ensures { IfOk result (λ post. post ≡ self.now.1) }
+    {
+        let entries = copied(alloc, &self.state.entries)?;
+        Ok(PostState {
+            entries,
+            next: self.state.next,
+        })
     }
 
     /// The store, and what stood in the queues.
