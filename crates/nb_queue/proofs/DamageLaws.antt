@@ -1,5 +1,5 @@
 -- A refused start names the least cell that is no cell of a post.
-use Rattle.std.specs.Prelude.{◌≡◌, ◌≢◌, ◌⊎◌, ℕ, zero, suc, ◌<◌, ◌≤◌, ◌^◌, List, [], ◌∷◌, ◌++◌, take, map as map_list, length, All, Contains, slice_get, Option, Some, None, refl}
+use Rattle.std.specs.Prelude.{◌≡◌, ◌≢◌, ◌⊎◌, ℕ, zero, suc, ◌<◌, List, [], ◌∷◌, take, map as map_list, Contains, slice_get, Some, refl}
 use Rattle.std.proofs.Common.{◌∙◌, inl, inr, sym, ap, subst, arith}
 use Rattle.std.proofs.lemmas.List.Elements.{Contains-append_cases, Contains-append_left, Contains-append_right, Contains-push_cases, Contains-push}
 use Rattle.std.specs.declared.cmp.Ordering.TheVariants.{Less, Equal}
@@ -15,7 +15,7 @@ use Rattle.nb_cells.specs.Cells.{CellMap, IsSpace, Scans}
 use Rattle.nb_cells.specs.declared.cell.Cell.{Cell}
 use Rattle.nb_envelope.specs.Cells.{whole}
 use Rattle.nb_envelope.proofs.FormatLaws.{whole_again}
-use Rattle.nb_queue.specs.Damage.{IsGood, HasNext, IsBefore, IsLeastDamage, IsFound}
+use Rattle.nb_queue.specs.Damage.{IsGood, HasNext, IsLeastDamage, IsFound}
 use Rattle.nb_queue.specs.Opening.{IsNextCell, IsCellOf, IsSomeNext, IsSomeEntry, TellsNext, AreLoaded, AreScans, IsFirstBad, IsRefusedFor, IsRefusal, Ascend}
 use Rattle.nb_queue.specs.Read.{next_in}
 use Rattle.nb_queue.specs.Spelled.{spelled_next, IsNumber}
@@ -23,7 +23,7 @@ use Rattle.nb_queue.specs.declared.fault.PostFault.{PostFault}
 use Rattle.nb_queue.specs.declared.fault.PostFault.TheVariants.{Failed, Damaged, Spent, NoMemory}
 use Rattle.nb_queue.proofs.FormatLaws.{format_next}
 use Rattle.nb_queue.proofs.OpeningLaws.{nowhere, same, read_same}
-use Rattle.nb_queue.proofs.OpenedLaws.{told_at, none_in, next_told, absent}
+use Rattle.nb_queue.proofs.OpenedLaws.{told_at, none_in, absent}
 
 -- ---- cells of a list whose keys ascend
 
@@ -78,6 +78,7 @@ next_unique m n next cells scans (inr some) has = go has
     there =
         let has : Contains cells some.0 = subst (λ xs. Contains xs some.0) (sym some.1) (Contains-push [] some.0) in
         ap (m 1) (sym some.2.key_is) ∙ told_at m 1 cells scans some.0 has ∙ ap Some some.2.bytes_are
+
     go : HasNext m next → next ≡ n
     go (inl has) = absurd (absent (m 1 []) (spelled_next n) has.0 there)
     go (inr has) =
@@ -154,14 +155,14 @@ found_damage m a b c d f scans (inl first) =
 found_damage m a b c d f scans (inr (n, tells, inl second)) =
     found_for m (IsSomeEntry n) 2 b f second (λ key r. damage_in m 2 (IsSomeEntry n) b key scans.second r
     (λ x next has good.
-      elim good [
-        | inl one ↦ absurd (let e = one.0 in omega arith)
-        | inr two ↦ (two.1.0, two.1.1, subst (λ k. IsCellOf k two.1.0 two.1.1 x.key x.bytes) (next_unique m n next a scans.first tells has) two.1.2)
-      ])
+    elim good [
+      | inl one ↦ absurd (let e = one.0 in omega arith)
+      | inr two ↦ (two.1.0, two.1.1, subst (λ k. IsCellOf k two.1.0 two.1.1 x.key x.bytes) (next_unique m n next a scans.first tells has) two.1.2)
+    ])
     (λ x next told is has. inr (refl, (is.0, is.1, subst (λ k. IsCellOf k is.0 is.1 x.key x.bytes) (sym (next_unique m n next a scans.first tells has)) is.2)))
     (λ s k bytes next in_space lt told has.
-      let one : s ≡ 1 = (let low = in_space.0 in omega arith) in
-      subst (λ x. IsGood next x k bytes) (sym one) (good_first m n a scans.first tells k bytes next (subst (λ x. m x k ≡ Some bytes) one told) has)))
+    let one : s ≡ 1 = (let low = in_space.0 in omega arith) in
+    subst (λ x. IsGood next x k bytes) (sym one) (good_first m n a scans.first tells k bytes next (subst (λ x. m x k ≡ Some bytes) one told) has)))
 found_damage m a b c d f scans (inr (n, tells, inr (es, loaded, inl third))) =
     found_for m never 3 c f third (λ key r. damage_in m 3 never c key scans.third_is r
     (λ x next has good. no_good next 3 x.key x.bytes (omega arith) good) (λ x next told is has. absurd is)
@@ -176,11 +177,11 @@ found_damage m a b c d f scans (inr (n, tells, inr (es, loaded, inr (none, fourt
     found_for m never 4 d f fourth (λ key r. damage_in m 4 never d key scans.fourth_is r
     (λ x next has good. no_good next 4 x.key x.bytes (omega arith) good) (λ x next told is has. absurd is)
     (λ s k bytes next in_space lt told has.
-      elim (same_or_other numbers s 3) [
-        | inl three ↦ absurd (absent (m 3 k) bytes (none_in m 3 c scans.third_is none k) (subst (λ x. m x k ≡ Some bytes) three told))
-        | inr other ↦
-            elim (same_or_other numbers s 1) [
-              | inl one ↦ below_third m n es a b scans.first tells scans.second loaded s k bytes next in_space (inl one) told has
-              | inr others ↦ below_third m n es a b scans.first tells scans.second loaded s k bytes next in_space (inr (let low = in_space.0 in omega arith)) told has
-            ]
-      ]))
+    elim (same_or_other numbers s 3) [
+      | inl three ↦ absurd (absent (m 3 k) bytes (none_in m 3 c scans.third_is none k) (subst (λ x. m x k ≡ Some bytes) three told))
+      | inr other ↦
+          elim (same_or_other numbers s 1) [
+            | inl one ↦ below_third m n es a b scans.first tells scans.second loaded s k bytes next in_space (inl one) told has
+            | inr others ↦ below_third m n es a b scans.first tells scans.second loaded s k bytes next in_space (inr (let low = in_space.0 in omega arith)) told has
+          ]
+    ]))

@@ -1,17 +1,17 @@
 -- A post that was loaded from the cells of a store has these cells.
-use Rattle.std.specs.Prelude.{◌≡◌, ◌≢◌, ◌⊎◌, ◌==◌, ℕ, ◌<◌, ◌≤◌, ◌^◌, List, [], ◌∷◌, Bool, true, false, cond, length, All, Contains, Option, Some, None, IsSome, is_some, option_map, refl}
+use Rattle.std.specs.Prelude.{◌≡◌, ◌≢◌, ◌⊎◌, ◌==◌, ℕ, ◌<◌, ◌≤◌, ◌^◌, List, [], ◌∷◌, Bool, true, false, cond, Contains, Option, Some, None, IsSome, option_map, refl}
 use Rattle.std.proofs.Common.{◌∙◌, inl, inr, sym, ap, subst, arith, true≢false, eqb-true, eq-eqb}
 use Rattle.std.proofs.lemmas.List.Elements.{All-contains, Contains-push_cases}
 use Rattle.std.specs.FinMap as map
 use Rattle.nb_base.specs.Orders.{ByNumber}
 use Rattle.nb_base.specs.declared.tables.PostState.{PostState}
 use Rattle.nb_base.specs.declared.tables.Queued.{Queued}
-use Rattle.nb_cells.specs.Cells.{CellMap, AreAlike, IsSpace, Scans}
+use Rattle.nb_cells.specs.Cells.{CellMap, IsSpace, Scans}
 use Rattle.nb_cells.specs.declared.cell.Cell.{Cell}
 use Rattle.nb_envelope.specs.Spelling.{spelled_u64}
 use Rattle.nb_queue.specs.Maps.{number_of, entry_bytes, next_bytes, cells_of}
-use Rattle.nb_queue.specs.Opening.{IsNextCell, IsCellOf, TellsNext, AreLoaded, AreScans, IsOpened, StaysInSpaces}
-use Rattle.nb_queue.specs.Spelled.{spelled_entry, spelled_next, IsNumber}
+use Rattle.nb_queue.specs.Opening.{TellsNext, AreLoaded, AreScans, IsOpened, StaysInSpaces}
+use Rattle.nb_queue.specs.Spelled.{spelled_entry, spelled_next}
 use Rattle.nb_queue.specs.Stands.{IsPost}
 use Rattle.nb_queue.proofs.CellLaws.{under, same_cells}
 use Rattle.nb_queue.proofs.FormatLaws.{number_of-spelled, spelled-number_of}
@@ -83,12 +83,15 @@ entries_told m next entries cells few scans loaded key = go (m 2 key) refl
         let cell = loaded.only number e is in
         let below = cell.2.below in
         (ap (m 2) (sym cell.2.key_is) ∙ told_at m 2 cells scans cell.0 cell.1 ∙ ap Some cell.2.bytes_are, omega arith)
+
     missing : (o : Option ℕ) → number_of key ≡ o → m 2 key ≡ None → (r : Option Queued) → (n : ℕ) → o ≡ Some n → map.get entries n ≡ r → None ≡ option_map spelled_entry r
     missing o spells none None n is at = refl
     missing o spells none (Some e) n is at = absurd (absent (m 2 key) (spelled_entry e) none (ap (m 2) (spelled-number_of key n (spells ∙ is)) ∙ (there n e at).0))
+
     spelled_by : (o : Option ℕ) → number_of key ≡ o → m 2 key ≡ None → None ≡ under entries o
     spelled_by None spells none = refl
     spelled_by (Some n) spells none = missing (Some n) spells none (map.get entries n) n refl refl
+
     go : (o : Option (List ℕ)) → m 2 key ≡ o → m 2 key ≡ entry_bytes entries key
     go None is = is ∙ spelled_by (number_of key) refl is
     go (Some b) is =

@@ -1,4 +1,3 @@
-use Rattle.std.proofs.Common.{subst}
 use Rattle.nb_queue.specs.Opening.{IsSomeEntry}
 use Rattle.nb_queue.proofs.OpeningLaws.{refused_at, loaded_none, loaded_more}
 use Rattle.nb_queue.proofs.opening.load_entries.Goals as goal
