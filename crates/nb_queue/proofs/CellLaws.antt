@@ -1,9 +1,9 @@
 -- What changes of the post make of its cells.
-use Rattle.std.specs.Prelude.{◌≡◌, ◌≢◌, ◌==◌, ℕ, ◌+◌, ◌<◌, ◌≤◌, ◌^◌, List, [], ◌∷◌, Bool, true, false, cond, ◌&&◌, bytes_eq, Option, Some, None, option_map, refl}
-use Rattle.std.proofs.Common.{◌∙◌, ◌⊎◌, inl, inr, sym, ap, subst, arith, true≢false, eqb-true, eq-eqb}
+use Rattle.std.specs.Prelude.{◌≡◌, ◌==◌, ℕ, ◌+◌, ◌<◌, ◌≤◌, List, [], ◌∷◌, Bool, true, false, cond, ◌&&◌, bytes_eq, Option, Some, None, option_map, refl}
+use Rattle.std.proofs.Common.{◌∙◌, ◌⊎◌, inl, inr, sym, ap, subst, arith, true≢false, eqb-true}
 use Rattle.std.specs.FinMap as map
 use Rattle.std.specs.Cmp.Lexicographic.{bytes_decides}
-use Rattle.nb_base.proofs.Maps.{numbers, same_or_other, at_same, at_other, gone, kept}
+use Rattle.nb_base.proofs.Maps.{numbers, at_same, at_other, gone, kept}
 use Rattle.nb_base.specs.Orders.{ByNumber}
 use Rattle.nb_base.specs.declared.tables.PostState.{PostState}
 use Rattle.nb_base.specs.declared.tables.Queued.{Queued}
@@ -37,6 +37,7 @@ put_bytes entries n e key is = go (bytes_eq key (spelled_u64 n)) refl
     others : (o : Option ℕ) → number_of key ≡ o → bytes_eq key (spelled_u64 n) ≡ false → under (map.insert entries n e) o ≡ under entries o
     others None spells differ = refl
     others (Some k) spells differ = ap (option_map spelled_entry) (at_other numbers entries n e k (λ same. true≢false (sym (key_itself (spelled_u64 n)) ∙ ap (λ x. bytes_eq x (spelled_u64 n)) (sym (spelled-number_of key k spells ∙ ap spelled_u64 same)) ∙ differ)))
+
     go : (b : Bool) → bytes_eq key (spelled_u64 n) ≡ b → entry_bytes (map.insert entries n e) key ≡ cond (bytes_eq key (spelled_u64 n)) (Some (spelled_entry e)) (entry_bytes entries key)
     go true same =
         ap (λ k. under (map.insert entries n e) (number_of k)) (same_key key (spelled_u64 n) same) ∙ ap (under (map.insert entries n e)) (number_of-spelled n is)
@@ -49,6 +50,7 @@ removed_bytes entries n key is = go (bytes_eq key (spelled_u64 n)) refl
     others : (o : Option ℕ) → number_of key ≡ o → bytes_eq key (spelled_u64 n) ≡ false → under (map.remove entries n) o ≡ under entries o
     others None spells differ = refl
     others (Some k) spells differ = ap (option_map spelled_entry) (kept numbers entries n k (λ same. true≢false (sym (key_itself (spelled_u64 n)) ∙ ap (λ x. bytes_eq x (spelled_u64 n)) (sym (spelled-number_of key k spells ∙ ap spelled_u64 same)) ∙ differ)))
+
     go : (b : Bool) → bytes_eq key (spelled_u64 n) ≡ b → entry_bytes (map.remove entries n) key ≡ cond (bytes_eq key (spelled_u64 n)) None (entry_bytes entries key)
     go true same =
         ap (λ k. under (map.remove entries n) (number_of k)) (same_key key (spelled_u64 n) same) ∙ ap (under (map.remove entries n)) (number_of-spelled n is)

@@ -1,15 +1,14 @@
 -- The spelling and the reading of entries and of numbers.
-use Rattle.std.specs.Prelude.{◌≡◌, ◌≢◌, ◌==◌, ◌<◌, ◌^◌, ℕ, List, [], ◌∷◌, ◌++◌, length, Bool, true, false, cond, nat_lt, bytes_eq, Option, Some, None, option_map, refl}
+use Rattle.std.specs.Prelude.{◌≡◌, ◌≢◌, ◌==◌, ℕ, List, [], ◌∷◌, ◌++◌, length, Bool, true, false, cond, nat_lt, bytes_eq, Option, Some, None, refl}
 use Rattle.std.proofs.Common.{◌∙◌, ap, sym, subst, arith, append_assoc, true≢false, lt-ltb}
-use Rattle.std.proofs.lemmas.Bool.{eqb-true, le-ltb}
-use Rattle.std.proofs.lemmas.List.{append-nil}
+use Rattle.std.proofs.lemmas.Bool.{eqb-true}
 use Rattle.std.specs.Cmp.Lexicographic.{bytes_decides}
 use Rattle.nb_base.specs.Messages.{Message}
 use Rattle.nb_base.specs.declared.tables.Queued.{Queued}
 use Rattle.nb_envelope.specs.Spelling.{spelled_u64, spelled_text, spelled_due, spelled_envelope}
 use Rattle.nb_envelope.specs.Cells.{◌>>=◌, u64_in, text_in, due_in, envelope_in, whole}
 use Rattle.nb_envelope.specs.Formats.{IsBytes, IsFormat}
-use Rattle.nb_envelope.proofs.FormatLaws.{Found, IsBytes-rest, bind_some, test_some, format_u64, format_text, whole_found, whole_again}
+use Rattle.nb_envelope.proofs.FormatLaws.{Found, IsBytes-rest, bind_some, test_some, format_u64, format_text, whole_again}
 use Rattle.nb_envelope.proofs.ValueLaws.{format_due}
 use Rattle.nb_envelope.proofs.EnvelopeLaws.{format_envelope}
 use Rattle.nb_queue.specs.Spelled.{spelled_content, spelled_entry, spelled_next, IsEntry, IsNumber}

@@ -1,6 +1,6 @@
 -- What the cells of a store are at its opening.
-use Rattle.std.specs.Prelude.{◌≡◌, ◌≢◌, ◌⊎◌, ℕ, ◌+◌, ◌<◌, ◌≤◌, ◌^◌, List, [], ◌∷◌, ◌++◌, take, map as map_list, length, Contains, slice_get, Option, Some, None, IsSome, is_some, Result, Ok, Err, refl}
-use Rattle.std.proofs.Common.{◌∙◌, inl, inr, sym, ap, subst, arith, true, cond}
+use Rattle.std.specs.Prelude.{◌≡◌, ◌⊎◌, ℕ, ◌+◌, ◌<◌, ◌≤◌, ◌^◌, List, [], ◌∷◌, ◌++◌, take, length, Contains, slice_get, Option, Some, None, IsSome, is_some, refl}
+use Rattle.std.proofs.Common.{◌∙◌, inl, inr, sym, ap, subst, arith}
 use Rattle.std.proofs.lemmas.List.Elements.{Contains-append_left, Contains-push, Contains-push_cases}
 use Rattle.std.specs.declared.cmp.Ordering.TheVariants.{Less, Equal}
 use Rattle.std.specs.List.Sorted.{IsStrictlySortedBy}
@@ -12,15 +12,13 @@ use Rattle.nb_base.specs.declared.tables.Queued.{Queued}
 use Rattle.nb_base.proofs.ListLaws.{take_next}
 use Rattle.nb_base.proofs.Maps.{numbers, same_or_other, at_same, at_other}
 use Rattle.nb_cells.specs.declared.cell.Cell.{Cell}
-use Rattle.nb_envelope.specs.Cells.{u64_in, whole, Gives}
-use Rattle.nb_envelope.specs.Formats.{IsBytes, IsFormat}
+use Rattle.nb_envelope.specs.Cells.{u64_in, whole}
+use Rattle.nb_envelope.specs.Formats.{IsFormat}
 use Rattle.nb_envelope.specs.Spelling.{spelled_u64}
-use Rattle.nb_envelope.specs.declared.fault.FormatFault.{FormatFault}
-use Rattle.nb_envelope.specs.declared.fault.FormatFault.TheVariants.{Damaged}
-use Rattle.nb_envelope.proofs.FormatLaws.{format_u64, whole_found, whole_again}
+use Rattle.nb_envelope.proofs.FormatLaws.{format_u64, whole_again}
 use Rattle.nb_queue.specs.Spelled.{spelled_entry, spelled_next, IsEntry, IsNumber}
 use Rattle.nb_queue.specs.Read.{entry_in, next_in}
-use Rattle.nb_queue.specs.Opening.{IsNextCell, IsCellOf, IsSomeNext, IsSomeEntry, TellsNext, AreLoaded, IsFirstBad, IsRefusedFor, Ascend}
+use Rattle.nb_queue.specs.Opening.{IsNextCell, IsCellOf, AreLoaded, IsRefusedFor, Ascend}
 use Rattle.nb_queue.specs.declared.fault.PostFault.{PostFault}
 use Rattle.nb_queue.specs.declared.fault.PostFault.TheVariants.{Damaged as DamagedPost, NoMemory as NoMemoryPost}
 use Rattle.nb_queue.proofs.FormatLaws.{format_entry, format_next}
@@ -30,7 +28,7 @@ use Rattle.nb_queue.proofs.FormatLaws.{format_entry, format_next}
 differ : {A : Type 0} (o : Option A) (x : A) → o ≡ None → o ≡ Some x → ⊥
 differ o x e f = cc
 
-same : {A : Type 0} (o : Option A) (x y : A) → o ≡ Some x → o ≡ Some y → x ≡ y
+pub same : {A : Type 0} (o : Option A) (x y : A) → o ≡ Some x → o ≡ Some y → x ≡ y
 same o x y e f = cc
 
 -- what a whole reading says of a value's spelling
@@ -63,7 +61,7 @@ pub refused_at : (P : Cell → Type 0) (space : ℕ) (cells : List Cell) (i : �
 refused_at P space cells i c f (inl none) at bad good = subst (IsRefusedFor P space cells) (sym none) tt
 refused_at P space cells i c f (inr is) at bad good = subst (IsRefusedFor P space cells) (sym is) (refl, (i, c, at, refl, bad, good))
 
-nowhere : (c : Cell) → Contains [] c → ⊥
+pub nowhere : (c : Cell) → Contains [] c → ⊥
 nowhere c has = let lt = has.1 in omega arith
 
 pub loaded_none : (next : ℕ) (entries : ByNumber Queued) → entries ≡ map.empty → AreLoaded next entries []

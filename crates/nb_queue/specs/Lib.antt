@@ -4,3 +4,5 @@ pub mod Maps
 pub mod Stands
 pub mod Changes
 pub mod Opening
+pub mod Damage
+pub mod Listed

@@ -7,7 +7,7 @@ use Rattle.nb_base.specs.declared.tables.Queued.{Queued}
 use Rattle.nb_cells.specs.Cells.{CellMap}
 use Rattle.nb_envelope.specs.Cells.{◌>>=◌, u64_in, whole}
 use Rattle.nb_envelope.specs.Spelling.{spelled_u64}
-use Rattle.nb_queue.specs.Spelled.{spelled_entry, spelled_next, IsEntry, IsNumber}
+use Rattle.nb_queue.specs.Spelled.{spelled_entry, spelled_next, IsEntry}
 
 -- the number that a key spells
 abbrev pub number_of : List ℕ → Option ℕ

@@ -1,5 +1,5 @@
 -- What the cells of a store are at its opening: those of a post, or the least one that is none.
-use Rattle.std.specs.Prelude.{◌≡◌, ◌⊎◌, ℕ, ◌<◌, ◌≤◌, List, [], ◌∷◌, take, map as map_list, Contains, slice_get, Option, Some, None, IsSome}
+use Rattle.std.specs.Prelude.{◌≡◌, ◌⊎◌, ℕ, ◌<◌, ◌≤◌, List, [], ◌∷◌, take, map as map_list, Contains, slice_get, Some, IsSome}
 use Rattle.std.specs.List.Sorted.{IsStrictlySortedBy}
 use Rattle.std.specs.FinMap as map
 use Rattle.std.specs.Ordering.{nat_cmp}
@@ -7,7 +7,9 @@ use Rattle.std.specs.Cmp.Lexicographic.{slice_cmp}
 use Rattle.nb_base.specs.Orders.{ByNumber}
 use Rattle.nb_base.specs.Sound.{limit}
 use Rattle.nb_base.specs.declared.tables.Queued.{Queued}
+use Rattle.nb_cells.specs.Cells.{CellMap, IsSpace, Scans}
 use Rattle.nb_cells.specs.declared.cell.Cell.{Cell}
+use Rattle.nb_base.specs.declared.tables.PostState.{PostState}
 use Rattle.nb_envelope.specs.Spelling.{spelled_u64}
 use Rattle.nb_queue.specs.Spelled.{spelled_entry, spelled_next, IsEntry}
 use Rattle.nb_queue.specs.declared.fault.PostFault.{PostFault}
@@ -59,3 +61,35 @@ IsRefusedFor P space cells NoMemory = Unit {0}
 -- keys that ascend by their bytes
 abbrev pub Ascend : List Cell → Type 0
 Ascend cells = IsStrictlySortedBy (slice_cmp nat_cmp) (map_list (λ c. c.key) cells)
+
+-- the lists are the scans of the four spaces
+pub record AreScans (m : CellMap) (next entries third fourth : List Cell) : Type 0 where
+  pub first : Scans m 1 next
+  pub second : Scans m 2 entries
+  pub third_is : Scans m 3 third
+  pub fourth_is : Scans m 4 fourth
+
+-- the post of which the lists are the cells
+pub record IsOpened (p : PostState) (next entries third fourth : List Cell) : Type 0 where
+  pub tells : TellsNext next p.next
+  pub loaded : AreLoaded p.next p.entries entries
+  pub none_third : third ≡ []
+  pub none_fourth : fourth ≡ []
+
+-- the first list that has a bad cell was refused for its first one
+abbrev pub IsRefusal : List Cell → List Cell → List Cell → List Cell → PostFault → Type 0
+IsRefusal next entries third fourth f =
+    IsRefusedFor IsSomeNext 1 next f
+    ⊎ ((n : ℕ) × TellsNext next n × (IsRefusedFor (IsSomeEntry n) 2 entries f
+    ⊎ ((es : ByNumber Queued) × AreLoaded n es entries × (IsRefusedFor (λ c. ⊥) 3 third f ⊎ ((third ≡ []) × IsRefusedFor (λ c. ⊥) 4 fourth f)))))
+
+-- no cell lies outside the four spaces
+abbrev pub StaysInSpaces : CellMap → Type 0
+StaysInSpaces m = (space : ℕ) (key bytes : List ℕ) → m space key ≡ Some bytes → IsSpace space
+
+-- cells are refused for damage or for want of memory
+abbrev pub IsOfCells : PostFault → Type 0
+IsOfCells Failed = ⊥
+IsOfCells (Damaged s key) = Unit {0}
+IsOfCells Spent = ⊥
+IsOfCells NoMemory = Unit {0}

@@ -1,5 +1,5 @@
 -- The one spelling of an entry and of the next number in cells, and which entries have one.
-use Rattle.std.specs.Prelude.{◌≡◌, ◌≢◌, ◌<◌, ◌^◌, ℕ, List, [], ◌∷◌, ◌++◌}
+use Rattle.std.specs.Prelude.{◌≢◌, ◌<◌, ◌^◌, ℕ, List, [], ◌∷◌, ◌++◌}
 use Rattle.nb_base.specs.declared.tables.Queued.{Queued}
 use Rattle.nb_envelope.specs.Spelling.{spelled_u64, spelled_text, spelled_due, spelled_envelope, IsText, IsDue, IsEnvelope}
 

@@ -3,6 +3,7 @@
 
 mod changes;
 mod fault;
+mod listed;
 mod opening;
 mod post;
 mod put;
@@ -10,4 +11,4 @@ mod read;
 mod take;
 
 pub use fault::PostFault;
-pub use post::{LIMIT, Post, PostClosed};
+pub use post::{LIMIT, Post, PostClosed, PostRefusal};

@@ -1,12 +1,20 @@
 //! The post: the entries of all queues over a store of cells.
 ghost use Rattle.std.specs.Prelude.{◌≡◌, ◌≢◌, ◌↔◌, ◌^◌, [], IfOk, OnOk, OnErr, IsSome, Err};
 ghost use Rattle.std.specs.FinMap as map;
+ghost use Rattle.std.specs.Prelude.{◌≤◌, IfErr};
+ghost use Rattle.nb_base.specs.Causes.{Rose};
+ghost use Rattle.nb_cells.specs.Cells.{CellMap};
+ghost use Rattle.nb_queue.specs.Damage.{IsFound};
+ghost use Rattle.nb_queue.specs.Listed.{standing};
 ghost use Rattle.nb_queue.specs.Maps.{cells_of};
+ghost use Rattle.nb_queue.specs.Opening.{StaysInSpaces};
 ghost use Rattle.nb_queue.specs.Stands.{with_entry, without_entry, Leaves, IsCaused};
 
 use crate::changes::{put_changes, remove_changes};
 use crate::fault::PostFault;
-use nb_base::{Copied, Envelope, Moment, PostState, Queued, Text};
+use crate::listed::{copied, standing};
+use crate::opening::{load, scan_all};
+use nb_base::{Copied, Entries, Envelope, Moment, NoMemory, PostState, Queued, Text};
 use nb_cells::{CellFault, Cells};
 use std::alloc::Global;
 use std::marker::Model;
@@ -41,7 +49,46 @@ pub struct PostClosed<P> {
     pub post: PostState,
 }
 
+/// The store that was handed in, and why no post was made of it.
+pub struct PostRefusal<P> {
+    pub fault: PostFault,
+    pub cells: P,
+}
+
 impl<P: Cells + Drop> Post<P> {
+    /// The post that stands in a store. `Damaged` names the least cell that is no cell of a post.
+    pub fn start(alloc: Global, cells: P) -> Result<Post<P>, PostRefusal<P>>
+        ensures ok { (m : CellMap) → IfOk result (λ p. P.honest p.0 → P.firm cells → P.now cells m → StaysInSpaces m → m ≡ cells_of p.1) }
+        ensures kept { IfOk result (λ p. (m : CellMap) → P.honest p.0 → P.firm cells → P.now cells m → P.now p.0 m × P.firm p.0) }
+        ensures images { IfOk result (λ p. (n : CellMap) → P.honest p.0 → P.images p.0 n → P.images cells n) }
+        ensures refused { IfErr result (λ r. (m : CellMap) → P.honest r.cells → P.firm cells → P.now cells m → P.now r.cells m × P.firm r.cells × IsFound m r.fault) }
+        ensures refused_images { IfErr result (λ r. (n : CellMap) → P.honest r.cells → P.images r.cells n → P.images cells n) }
+        ensures never_spent { IfErr result (λ r. r.fault ≢ PostFault.Spent) }
+        ensures cause { IfErr result (λ r. (P.count cells ≤ P.count r.cells) × (r.fault ≡ PostFault.Failed → Rose (P.count cells) (P.count r.cells))) }
+        ensures later { IfOk result (λ p. P.count cells ≤ P.count p.0) }
+    {
+        let mut cells = cells;
+        let found = match scan_all(alloc, &mut cells) {
+            Ok(found) => found,
+            Err(CellFault::Failed) => {
+                return Err(PostRefusal {
+                    fault: PostFault::Failed,
+                    cells,
+                });
+            }
+            Err(CellFault::NoMemory) => {
+                return Err(PostRefusal {
+                    fault: PostFault::NoMemory,
+                    cells,
+                });
+            }
+        };
+        match load(alloc, &found) {
+            Ok(state) => Ok(Post { cells, state }),
+            Err(fault) => Err(PostRefusal { fault, cells }),
+        }
+    }
+
     /// Puts an envelope into a queue, or has it wait for a moment, and answers the number of the new entry.
     pub fn put(
         &mut self,
@@ -105,6 +152,24 @@ impl<P: Cells + Drop> Post<P> {
             Err(CellFault::Failed) => Err(PostFault::Failed),
             Err(CellFault::NoMemory) => Err(PostFault::NoMemory),
         }
+    }
+
+    /// The entries that stand in a queue, by their numbers.
+    pub fn list(&self, alloc: Global, queue: &Text) -> Result<Entries, NoMemory>
+        ensures { IfOk result (λ list. list ≡ standing queue.now self.now.1.entries) }
+    {
+        standing(alloc, queue, &self.state.entries)
+    }
+
+    /// All that stands in the queues.
+    pub fn all(&self, alloc: Global) -> Result<PostState, NoMemory>
+        ensures { IfOk result (λ post. post ≡ self.now.1) }
+    {
+        let entries = copied(alloc, &self.state.entries)?;
+        Ok(PostState {
+            entries,
+            next: self.state.next,
+        })
     }
 
     /// The store, and what stood in the queues.

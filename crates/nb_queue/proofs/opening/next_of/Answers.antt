@@ -1,4 +1,4 @@
-use Rattle.std.proofs.Common.{◌≡◌, ◌∙◌, ◌⊎◌, inl, inr, subst, Some, None, arith}
+use Rattle.std.proofs.Common.{◌≡◌, inl, inr, subst, Some, None, arith}
 use Rattle.nb_envelope.specs.Cells.{whole, Fails}
 use Rattle.nb_envelope.specs.Formats.{IsBytes}
 use Rattle.nb_envelope.proofs.FormatLaws.{whole_found}

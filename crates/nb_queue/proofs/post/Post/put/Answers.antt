@@ -1,6 +1,5 @@
-use Rattle.std.proofs.Common.{◌≡◌, ◌∙◌, ◌+◌, sym, ap, subst, Ok, Err, arith}
+use Rattle.std.proofs.Common.{◌∙◌, ◌+◌, sym, ap, subst, Err, arith}
 use Rattle.std.specs.FinMap as map
-use Rattle.nb_base.specs.declared.tables.PostState.{PostState}
 use Rattle.nb_base.specs.declared.tables.Queued.{Queued}
 use Rattle.nb_cells.specs.Cells.{AreDistinct}
 use Rattle.nb_queue.specs.Maps.{cells_of}
@@ -28,10 +27,10 @@ returns-in-Ok-clause-cells g c =
     let e : Queued = record { queue = c.args.queue.now; due = c.args.due; envelope = c.args.envelope.now } in
     let is = changed_by_put s e c.in_ok-changes.changes c.self.invariant (omega arith) c.in_ok-changes.ensures.changes in
     λ honest firm told.
-      let firm_in = subst (λ v. g.P.Cells.firm v.0) (sym c.self.view_is) firm in
-      let told_in = subst (λ v. g.P.Cells.now v.0 (cells_of v.1)) (sym c.self.view_is) told in
-      let after = is ∙ ap (λ v. cells_of (with_entry v.1 e)) c.self.view_is in
-      leaves_all_unit (g.P.Cells.now c.apply.new.self) (g.P.Cells.images c.apply.new.self) (g.P.Cells.firm c.apply.new.self) (g.P.Cells.images c.self.inside.cells) (cells_of s) _ _ after (c.in-Ok.ensures.ok (cells_of s) honest firm_in told_in) (c.in-Ok.ensures.ok_firm honest firm_in) (λ n image. c.in-Ok.ensures.ok_images (cells_of s) n honest firm_in told_in image)
+    let firm_in = subst (λ v. g.P.Cells.firm v.0) (sym c.self.view_is) firm in
+    let told_in = subst (λ v. g.P.Cells.now v.0 (cells_of v.1)) (sym c.self.view_is) told in
+    let after = is ∙ ap (λ v. cells_of (with_entry v.1 e)) c.self.view_is in
+    leaves_all_unit (g.P.Cells.now c.apply.new.self) (g.P.Cells.images c.apply.new.self) (g.P.Cells.firm c.apply.new.self) (g.P.Cells.images c.self.inside.cells) (cells_of s) _ _ after (c.in-Ok.ensures.ok (cells_of s) honest firm_in told_in) (c.in-Ok.ensures.ok_firm honest firm_in) (λ n image. c.in-Ok.ensures.ok_images (cells_of s) n honest firm_in told_in image)
 
 pub invariant_of-self-in-Err-Failed : goal.invariant_of-self-in-Err-Failed
 invariant_of-self-in-Err-Failed g c =
@@ -51,12 +50,13 @@ returns-in-Err-Failed-clause-cells g c =
     let e : Queued = record { queue = c.args.queue.now; due = c.args.due; envelope = c.args.envelope.now } in
     let is = changed_by_put s e c.in_ok-changes.changes c.self.invariant (omega arith) c.in_ok-changes.ensures.changes in
     λ honest firm told.
-      let firm_in = subst (λ v. g.P.Cells.firm v.0) (sym c.self.view_is) firm in
-      let told_in = subst (λ v. g.P.Cells.now v.0 (cells_of v.1)) (sym c.self.view_is) told in
-      let after = is ∙ ap (λ v. cells_of (with_entry v.1 e)) c.self.view_is in
-      (λ stays. subst (λ v. g.P.Cells.now c.apply.new.self (cells_of v.1)) c.self.view_is (c.in-Err-Failed.ensures.failed (cells_of s) honest firm_in told_in (ap Err c.in-Err-Failed.field-0-is) stays),
-       leaves_either (g.P.Cells.images c.apply.new.self) (g.P.Cells.images c.self.inside.cells) (g.P.Cells.images c.args.self.now.0) _ _ after (λ n image. subst (λ v. g.P.Cells.images v.0 n) c.self.view_is image)
-           (λ n image. c.in-Err-Failed.ensures.failed_images (cells_of s) n honest firm_in told_in (ap Err c.in-Err-Failed.field-0-is) image))
+    let firm_in = subst (λ v. g.P.Cells.firm v.0) (sym c.self.view_is) firm in
+    let told_in = subst (λ v. g.P.Cells.now v.0 (cells_of v.1)) (sym c.self.view_is) told in
+    let after = is ∙ ap (λ v. cells_of (with_entry v.1 e)) c.self.view_is in (
+      λ stays. subst (λ v. g.P.Cells.now c.apply.new.self (cells_of v.1)) c.self.view_is (c.in-Err-Failed.ensures.failed (cells_of s) honest firm_in told_in (ap Err c.in-Err-Failed.field-0-is) stays),
+      leaves_either (g.P.Cells.images c.apply.new.self) (g.P.Cells.images c.self.inside.cells) (g.P.Cells.images c.args.self.now.0) _ _ after (λ n image. subst (λ v. g.P.Cells.images v.0 n) c.self.view_is image)
+          (λ n image. c.in-Err-Failed.ensures.failed_images (cells_of s) n honest firm_in told_in (ap Err c.in-Err-Failed.field-0-is) image),
+    )
 
 pub invariant_of-self-in-Err-NoMemory : goal.invariant_of-self-in-Err-NoMemory
 invariant_of-self-in-Err-NoMemory g c =
