@@ -21,7 +21,7 @@ use Rattle.nb_script.specs.Spelling.{Mark, lexeme, is_zero, one_less, unary_symb
 use Rattle.nb_script.specs.Reading.{Source, Parser, ret, look, ◌>>=◌, take, want_symbol, Deeper, parens, signed, call, constant_word, holder_field, operand_of, operand_in, operator, operator_of, turn, chain, once, rest_by, climb, deeper, operand, expr, seen, seen_word, key, number, quoted, name, word}
 use Rattle.nb_script.specs.Reading as read
 use Rattle.nb_script.proofs.Complete.{Excuse, Meets, Split, split, Halts, Reads, Gets, ret_reads, bind_reads, bind_stops, look_reads, same_reads}
-use Rattle.nb_script.proofs.Tokens.{symbol_token, word_token, past_symbol_reads, past_symbol_stops, symbol_reads, key_reads, word_reads, name_reads, number_reads, quoted_reads}
+use Rattle.nb_script.proofs.OneToken.{symbol_token, word_token, past_symbol_reads, past_symbol_stops, symbol_reads, key_reads, word_reads, name_reads, number_reads, quoted_reads}
 use Rattle.nb_script.proofs.Operators.{Ends, EndsAll, ends_operator, own_operator, ends_symbol, level_some, beside, left_within, right_within}
 
 -- An expression at a level is read, where no operator follows that could go on with it.

@@ -39,7 +39,7 @@ use Rattle.nb_script.specs.declared.fault.Fault.TheVariants.{Expected}
 use Rattle.nb_script.specs.Spelling.{MayPrecede, lexeme, is_there}
 use Rattle.nb_script.proofs.Complete as law
 use Rattle.nb_script.proofs.Complete.{Excuse, Meets, split, Reads, ret_reads, bind_reads, bind_stops, look_reads, same_reads, Opens, IsRow, many_complete}
-use Rattle.nb_script.proofs.Tokens.{symbol_token, word_token, past_symbol_reads, past_symbol_stops, past_word_reads, past_word_stops, symbol_reads, this_reads, key_reads, word_reads, name_reads, number_reads, quoted_reads}
+use Rattle.nb_script.proofs.OneToken.{symbol_token, word_token, past_symbol_reads, past_symbol_stops, past_word_reads, past_word_stops, symbol_reads, this_reads, key_reads, word_reads, name_reads, number_reads, quoted_reads}
 use Rattle.nb_script.proofs.Operators.{EndsAll, ends_symbol, ends_word}
 use Rattle.nb_script.proofs.CompleteExpr.{expr_complete}
 use Rattle.nb_script.specs.Reading as reading

@@ -16,7 +16,7 @@ use Rattle.nb_script.specs.Words.{keyword_of}
 use Rattle.nb_script.specs.Grammar.{Term, Number, Quoted, Constant, Field, Name, Call, Paren, Prefix, Infix}
 use Rattle.nb_script.specs.Spelling.{lexeme, binary_symbol, level, is_alone, left_of, left_level, IsWithin}
 use Rattle.nb_script.specs.Reading.{seen, seen_word, kept, at_level, operator_of, operator_in, operator}
-use Rattle.nb_script.proofs.Tokens.{symbol_token, word_token}
+use Rattle.nb_script.proofs.OneToken.{symbol_token, word_token}
 
 -- ---- what is seen as an operator
 

@@ -20,7 +20,7 @@ use Rattle.nb_script.specs.Grammar.{Term, Number, Quoted, Constant, Field, Name,
 use Rattle.nb_script.specs.Spelling.{Mark, is_zero, one_less, unary_symbol, binary_symbol, constant_key, holder_key, function_key, operators, spelling, expression, level, is_alone, left_of, IsWithin}
 use Rattle.nb_script.specs.Reading.{Parser, ret, look, Deeper, parens, signed, call, constant_word, holder_field, keyed, operand_of, operand_in, operator, turn, chain, once, rest_by, climb, deeper, operand, expr, seen}
 use Rattle.nb_script.proofs.Laws.{Sound, Extends, ret_sound, stop_sound, look_sound, bind_sound}
-use Rattle.nb_script.proofs.Tokens.{past_symbol_sound, symbol_sound, key_sound, word_sound, name_sound, number_sound, quoted_sound}
+use Rattle.nb_script.proofs.OneToken.{past_symbol_sound, symbol_sound, key_sound, word_sound, name_sound, number_sound, quoted_sound}
 use Rattle.nb_script.proofs.Operators.{operator_level, within_more, beside, infix_within}
 
 -- an expression that may stand at a level

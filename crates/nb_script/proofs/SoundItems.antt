@@ -33,7 +33,7 @@ use Rattle.nb_script.specs.Reading.{Parser, ret, look, always, closes, many, see
 use Rattle.nb_script.specs.ReadingScript as read
 use Rattle.nb_script.specs.ReadingScript.{in_row, Branch, Inside}
 use Rattle.nb_script.proofs.Laws.{Sound, Extends, ret_sound, stop_sound, look_sound, bind_sound, many_sound}
-use Rattle.nb_script.proofs.Tokens.{past_symbol_sound, past_word_sound, symbol_sound, this_sound, key_sound, word_sound, name_sound, number_sound, quoted_sound}
+use Rattle.nb_script.proofs.OneToken.{past_symbol_sound, past_word_sound, symbol_sound, this_sound, key_sound, word_sound, name_sound, number_sound, quoted_sound}
 use Rattle.nb_script.proofs.SoundExpr.{expr_sound}
 use Rattle.nb_script.proofs.SoundScript.{strung_every, type_name_sound, comma_sound, InsideSound, block_sound, inside_sound}
 
