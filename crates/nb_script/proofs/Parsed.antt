@@ -1,6 +1,5 @@
 -- What is answered for a text is right.
-use Rattle.std.proofs.Common.{◌≡◌, ℕ, zero, suc, ◌<◌, ◌≤◌, arith, [], ◌∷◌, Option, Some, None, Ok, Err, List, length, slice_get, option_map, unwrap_or, map, refl, ap, sym, subst, ◌∙◌}
-use Rattle.nb_script.specs.declared.lexer.Tail.{Tail}
+use Rattle.std.proofs.Common.{◌≡◌, ℕ, zero, suc, ◌≤◌, arith, [], ◌∷◌, Option, Some, None, Ok, List, length, slice_get, option_map, unwrap_or, map, refl, ap, sym, subst, ◌∙◌}
 use Rattle.nb_script.specs.declared.lexer.Tail.TheVariants as tail
 use Rattle.nb_script.specs.declared.lexer.LexFault.{LexFault}
 use Rattle.nb_script.specs.declared.lexer.LexFault.TheVariants as bad
@@ -13,11 +12,10 @@ use Rattle.nb_script.specs.declared.script.ScriptKind.TheVariants as k
 use Rattle.nb_script.specs.Grammar.{ItemTerm}
 use Rattle.nb_script.specs.declared.lexer.Scanned.{Scanned}
 use Rattle.nb_script.specs.Lexing.{lexed, lexeme_of, lexemes_of}
-use Rattle.nb_script.specs.Spelling.{lexemes, script_marks}
 use Rattle.nb_script.specs.ReadingScript.{whole}
 use Rattle.nb_script.specs.Answer.{Starts, IsFirstPlace, Spells}
 use Rattle.nb_script.specs.Parsing.{IsText, StandsAt, IsScriptText, IsUnreadable, IsStuck, IsFirstBad, place_of, IsFaultOf, IsFault, IsLexFaultOf, IsLexFault, IsEarlyOf, IsEarly, lex_kind, kind_of}
-use Rattle.nb_script.proofs.First.{found, halts}
+use Rattle.nb_script.proofs.First.{found}
 
 early_of : (text : List ℕ) (f : ScriptFault) (kind : ScriptKind) → IsEarlyOf text f kind → IsFaultOf text f kind
 early_of text f k.NoMemory e = e

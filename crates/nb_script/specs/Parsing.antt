@@ -1,5 +1,5 @@
 -- What is answered for a text: its script, or why and where it is none.
-use Rattle.std.specs.Prelude.{◌≡◌, ℕ, ◌≤◌, ◌<◌, List, [], take, length, slice_get, Option, Some, None, option_map, unwrap_or, Result, Ok, Err}
+use Rattle.std.specs.Prelude.{◌≡◌, ℕ, ◌≤◌, ◌<◌, List, take, length, slice_get, None, option_map, unwrap_or}
 use Rattle.std.specs.Str.{IsUtf8, IsValidUpTo}
 use Rattle.nb_script.specs.declared.lexer.Token.{Token}
 use Rattle.nb_script.specs.declared.lexer.Tail.TheVariants as tail

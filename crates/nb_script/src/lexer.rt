@@ -249,7 +249,10 @@ pub fn scan(alloc: Global, text: &[u8]) -> Result<Scanned, NoMemory>
     for _ in 0..text.len() {
         let (_, rest) = text.split_at(at);
         match front_of(rest) {
-            Piece::End => return Ok(Scanned { tokens, tail: Tail::End }),
+            Piece::End => return Ok(Scanned {
+                tokens,
+                tail: Tail::End,
+            }),
             Piece::Gap(n) => at += n,
             Piece::Token(kind, n) => {
                 let from = at as u32;

@@ -1,4 +1,4 @@
-use Rattle.std.proofs.Common.{◌≡◌, false, ◌∙◌, subst, IfOk}
+use Rattle.std.proofs.Common.{◌≡◌, ◌∙◌, subst, IfOk}
 use Rattle.nb_script.proofs.Digits.{no_quotes}
 use Rattle.nb_script.proofs.content.quoted.Goals as goal
 

@@ -14,5 +14,5 @@ returns-then-n-gt9223372036854775807-clause-value c =
     let digit : c.from.result ≡ get_or c.args.digits.now c.loop-b.b-index 0 - 48 = c.from.ensures ∙ c.saturating_sub.ensures in
     let above : 9223372036854775807 < c.loop-b.n * 10 + c.from.result = c.if-n-gt9223372036854775807.true in
     let least : c.loop-b.n * 10 + (get_or c.args.digits.now c.loop-b.b-index 0 - 48) ≤ value_after 0 c.args.digits.now =
-        at_least c.args.digits.now _ (drop (c.loop-b.b-index + 1) c.args.digits.now) (sym (next_digit c.args.digits.now c.loop-b.b-index c.loop-b.n c.loop-b-test.true) ∙ c.loop-b.invariant.0) in
+    at_least c.args.digits.now _ (drop (c.loop-b.b-index + 1) c.args.digits.now) (sym (next_digit c.args.digits.now c.loop-b.b-index c.loop-b.n c.loop-b-test.true) ∙ c.loop-b.invariant.0) in
     too_great c.args.digits.now (omega arith)
