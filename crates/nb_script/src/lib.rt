@@ -17,3 +17,6 @@ pub mod stmt;
 
 pub use lexer::{Token, TokenKind};
 pub use script::{Script, ScriptFault, ScriptKind, parse, tokens};
+
+#[cfg(test)]
+mod tests;
