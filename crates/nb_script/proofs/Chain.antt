@@ -1,5 +1,5 @@
 -- What follows a left operand, turn by turn.
-use Rattle.std.proofs.Common.{◌≡◌, ℕ, zero, suc, ◌+◌, ◌-◌, ◌<◌, Option, Some, None, Ok, Err, refl, ap, sym, ◌∙◌, arith}
+use Rattle.std.proofs.Common.{◌≡◌, ℕ, zero, suc, ◌+◌, ◌-◌, ◌<◌, Some, None, Ok, Err, refl, ap, sym, ◌∙◌, arith}
 use Rattle.nb_script.specs.declared.expr.Binary.{Binary}
 use Rattle.nb_script.specs.declared.fault.Fault.{Fault}
 use Rattle.nb_script.specs.declared.fault.Fault.TheVariants.{Expected}

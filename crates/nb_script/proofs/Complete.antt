@@ -1,10 +1,10 @@
 -- What is spelled is read, or a fault comes that is excused: closed under the steps that parsers take.
-use Rattle.std.proofs.Common.{◌≡◌, ℕ, zero, suc, ◌+◌, ◌≤◌, ◌<◌, Option, Some, None, Ok, Err, Bool, true, false, List, [], ◌∷◌, ◌++◌, refl, ap, sym, subst, ◌∙◌, arith}
+use Rattle.std.proofs.Common.{◌≡◌, ℕ, zero, suc, ◌+◌, ◌≤◌, ◌<◌, Option, Some, Ok, Err, Bool, true, false, List, [], ◌∷◌, ◌++◌, refl, ap, sym, subst, ◌∙◌, arith}
 use Rattle.nb_script.specs.declared.lexeme.Lexeme.{Lexeme}
 use Rattle.nb_script.specs.declared.fault.Fault.{Fault}
 use Rattle.nb_script.specs.declared.fault.Fault.TheVariants.{TooDeep, Expected}
 use Rattle.nb_script.specs.Spelling.{Mark, each, MayPrecede, Strung}
-use Rattle.nb_script.specs.Reading.{Source, Outcome, Parser, ret, fail, and_then, ◌>>=◌, look, taken, take, after_one, many_by, many}
+use Rattle.nb_script.specs.Reading.{Source, Outcome, Parser, ret, and_then, ◌>>=◌, look, taken, take, after_one, many_by, many}
 
 -- which faults are excused, and at which tokens
 abbrev pub Excuse : Type 1
@@ -134,7 +134,7 @@ unfolding many
 many_goes E zero stop more p lines g k j m x xs far le goes first lt may others none = Stops (record { fault = Expected; at = k; is = refl; excuse = far k (omega arith) })
 many_goes E (suc n) stop more p lines g k j m x xs far le goes first lt may others none =
     let step : Reads E (p >>= λ x. after_one (more x) x (many n stop more p)) g k (x ∷ xs) m =
-        bind_reads (λ x. after_one (more x) x (many n stop more p)) first (after_reads E x xs (more x) may (many n stop more p) g j m (others n (omega arith)) none) in
+    bind_reads (λ x. after_one (more x) x (many n stop more p)) first (after_reads E x xs (more x) may (many n stop more p) g j m (others n (omega arith)) none) in
     same_reads E (many (suc n) stop more p) (p >>= λ x. after_one (more x) x (many n stop more p)) g k k (x ∷ xs) m (ap (λ b. many_by more p (many n stop more p) b g k) goes) step
 
 no_more : {A : Type 0} (E : Excuse) (spell : A → List Mark) (g : Source) (k m : ℕ) (xs : List A) → Meets E g k (each spell xs) m → xs ≡ [] → k ≡ m

@@ -1,11 +1,8 @@
 -- What is spelled of an expression is read.
-use Rattle.std.proofs.Common.{◌≡◌, ◌≢◌, inl, inr, ℕ, zero, suc, ◌+◌, ◌-◌, ◌==◌, ◌≤◌, ◌<◌, ◌||◌, Option, Some, None, Ok, Bool, true, false, List, [], ◌∷◌, ◌++◌, pos, refl, ap, sym, subst, ◌∙◌, arith}
+use Rattle.std.proofs.Common.{◌≡◌, ◌≢◌, inl, inr, ℕ, zero, suc, ◌-◌, ◌≤◌, ◌<◌, Option, Some, None, Bool, true, false, List, [], ◌∷◌, ◌++◌, refl, ap, sym, subst, ◌∙◌, arith}
 use Rattle.std.proofs.lemmas.Bool.Decides.{eqb_tells}
-use Rattle.nb_script.specs.declared.lexeme.Keyword.TheVariants as k
 use Rattle.nb_script.specs.declared.lexeme.Symbol.TheVariants as sym'
-use Rattle.nb_script.specs.declared.lexeme.Content.TheVariants as c
 use Rattle.nb_script.specs.declared.lexeme.Lexeme.{Lexeme}
-use Rattle.nb_script.specs.declared.fault.Fault.TheVariants.{TooDeep}
 use Rattle.nb_script.specs.declared.expr.Unary.{Unary}
 use Rattle.nb_script.specs.declared.expr.Unary.TheVariants as unary
 use Rattle.nb_script.specs.declared.expr.Binary.{Binary}
@@ -17,11 +14,11 @@ use Rattle.nb_script.specs.declared.expr.Function.{Function}
 use Rattle.nb_script.specs.declared.expr.Function.TheVariants as function
 use Rattle.nb_script.specs.Words.{keyword_text, keyword_of}
 use Rattle.nb_script.specs.Grammar.{Term, Number, Quoted, Constant, Field, Name, Call, Paren, Prefix, Infix}
-use Rattle.nb_script.specs.Spelling.{Mark, lexeme, is_zero, one_less, unary_symbol, binary_symbol, constant_key, holder_key, function_key, operators, spelling, expression, level, is_alone, left_of, left_level, IsName, IsWithin, symbol}
+use Rattle.nb_script.specs.Spelling.{is_zero, one_less, unary_symbol, binary_symbol, constant_key, holder_key, function_key, operators, spelling, expression, level, is_alone, left_of, IsName, IsWithin, symbol}
 use Rattle.nb_script.specs.Reading.{Source, Parser, ret, look, ◌>>=◌, take, want_symbol, Deeper, parens, signed, call, constant_word, holder_field, operand_of, operand_in, operator, operator_of, turn, chain, once, rest_by, climb, deeper, operand, expr, seen, seen_word, key, number, quoted, name, word}
 use Rattle.nb_script.specs.Reading as read
-use Rattle.nb_script.proofs.Complete.{Excuse, Meets, Split, split, Halts, Reads, Gets, ret_reads, bind_reads, bind_stops, look_reads, same_reads}
-use Rattle.nb_script.proofs.Tokens.{symbol_token, word_token, past_symbol_reads, past_symbol_stops, symbol_reads, key_reads, word_reads, name_reads, number_reads, quoted_reads}
+use Rattle.nb_script.proofs.Complete.{Excuse, Meets, split, Halts, Reads, Gets, ret_reads, bind_reads, bind_stops, look_reads, same_reads}
+use Rattle.nb_script.proofs.OneToken.{symbol_token, word_token, past_symbol_reads, past_symbol_stops, symbol_reads, key_reads, word_reads, name_reads, number_reads, quoted_reads}
 use Rattle.nb_script.proofs.Operators.{Ends, EndsAll, ends_operator, own_operator, ends_symbol, level_some, beside, left_within, right_within}
 
 -- An expression at a level is read, where no operator follows that could go on with it.

@@ -1,17 +1,9 @@
 -- What is spelled of items is read.
-use Rattle.std.proofs.Common.{◌≡◌, ◌≤◌, ℕ, zero, suc, ◌+◌, Ok, arith, Option, Some, None, Bool, true, false, List, [], ◌∷◌, ◌++◌, pos, refl, ap, sym, subst, ◌∙◌, append_assoc, codes}
-use Rattle.std.proofs.lemmas.List.{append-nil}
+use Rattle.std.proofs.Common.{◌≡◌, ℕ, suc, Option, Some, None, Bool, true, false, List, [], ◌∷◌, ◌++◌, refl, ap, ◌∙◌, codes}
 use Rattle.nb_script.specs.declared.lexeme.Keyword.{Keyword}
 use Rattle.nb_script.specs.declared.lexeme.Keyword.TheVariants as kw
 use Rattle.nb_script.specs.declared.lexeme.Symbol.TheVariants as sym'
-use Rattle.nb_script.specs.declared.lexeme.Content.TheVariants as c
-use Rattle.nb_script.specs.declared.lexeme.Seen.{Seen}
-use Rattle.nb_script.specs.declared.lexeme.Seen.TheVariants as see
 use Rattle.nb_script.specs.declared.expr.TypeName.{TypeName}
-use Rattle.nb_script.specs.declared.stmt.Destination.{Destination}
-use Rattle.nb_script.specs.declared.stmt.Destination.TheVariants as destination
-use Rattle.nb_script.specs.declared.stmt.Refusal.{Refusal}
-use Rattle.nb_script.specs.declared.stmt.Refusal.TheVariants as refusal
 use Rattle.nb_script.specs.declared.item.FieldKind.{FieldKind}
 use Rattle.nb_script.specs.declared.item.FieldKind.TheVariants as kind
 use Rattle.nb_script.specs.declared.item.Field.{Field as FieldLine}
@@ -24,25 +16,17 @@ use Rattle.nb_script.specs.declared.item.Finder.TheVariants as finder
 use Rattle.nb_script.specs.declared.item.Answer.{Answer}
 use Rattle.nb_script.specs.declared.item.Answer.TheVariants as answer
 use Rattle.nb_script.specs.Words.{keyword_text, keyword_of}
-use Rattle.nb_script.specs.Grammar.{Term, Number, ArgTerm, MakeTerm, RowTerm, AfterTerm}
-use Rattle.nb_script.specs.Grammar.{Phrase, Let, Set, Put, Add, Erase, Send, Publish, Reply, Timeout, Complete, Refuse, If, Phrases, Nil, Then, Braces, Brace, Otherwise, Nothing, Last, Chain}
+use Rattle.nb_script.specs.Grammar.{Braces, Brace}
 use Rattle.nb_script.specs.Grammar.{PartTerm, ByField, ById, SagaTerm, ItemTerm, Message, Handler, Saga}
 use Rattle.nb_script.specs.Spelling as spell
 use Rattle.nb_script.specs.Spelling.{Mark, each, Every, Strung, Always, is_zero, one_less, IsName, IsWithin, IsDotted, IsTypeName, IsArg, IsMake, IsRowName, IsDelay, IsStatement, AreStatements, IsBlock, IsAlternative, IsPart, IsSaga, IsItem, arg_goes_on, message_field_goes_on, saga_field_goes_on, destination_key, refusal_key, kind_key, truth_key, finder_key, answer_key}
-use Rattle.nb_script.specs.Reading.{Source, Parser, ret, look, ◌>>=◌, take, want_symbol, always, closes, is_close_brace, many, seen, seen_word, by_seen, expr}
+use Rattle.nb_script.specs.Reading.{Source, always, closes, seen, seen_word}
 use Rattle.nb_script.specs.ReadingScript as read
 use Rattle.nb_script.specs.ReadingScript.{in_row, Branch, Inside}
-use Rattle.nb_script.specs.declared.lexeme.Lexeme.{Lexeme}
-use Rattle.nb_script.specs.declared.lexeme.Content.{Content}
-use Rattle.nb_script.specs.declared.expr.Dotted.{Dotted}
-use Rattle.nb_script.specs.declared.fault.Fault.TheVariants.{Expected}
 use Rattle.nb_script.specs.Spelling.{MayPrecede, lexeme, is_there}
 use Rattle.nb_script.proofs.Complete as law
 use Rattle.nb_script.proofs.Complete.{Excuse, Meets, split, Reads, ret_reads, bind_reads, bind_stops, look_reads, same_reads, Opens, IsRow, many_complete}
-use Rattle.nb_script.proofs.Tokens.{symbol_token, word_token, past_symbol_reads, past_symbol_stops, past_word_reads, past_word_stops, symbol_reads, this_reads, key_reads, word_reads, name_reads, number_reads, quoted_reads}
-use Rattle.nb_script.proofs.Operators.{EndsAll, ends_symbol, ends_word}
-use Rattle.nb_script.proofs.CompleteExpr.{expr_complete}
-use Rattle.nb_script.specs.Reading as reading
+use Rattle.nb_script.proofs.OneToken.{word_token, symbol_reads, this_reads, key_reads, word_reads, name_reads, number_reads, quoted_reads}
 use Rattle.nb_script.proofs.CompleteScript.{every_strung, Far, enough, no_closing, type_name_complete, AfterComma, comma_reads, there_follows, end_follows, closes_at, no_dot_symbol, InRoom, block_complete, inside_complete}
 
 -- ---- fields

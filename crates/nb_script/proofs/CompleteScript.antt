@@ -1,6 +1,5 @@
 -- What is spelled of statements is read.
-use Rattle.std.proofs.Common.{◌≡◌, ◌≤◌, ℕ, zero, suc, ◌+◌, Ok, arith, Option, Some, None, Bool, true, false, List, [], ◌∷◌, ◌++◌, pos, refl, ap, sym, subst, ◌∙◌, append_assoc, codes}
-use Rattle.std.proofs.lemmas.List.{append-nil}
+use Rattle.std.proofs.Common.{◌≡◌, ◌≤◌, ℕ, zero, suc, ◌+◌, Ok, arith, Option, Some, None, Bool, true, false, List, [], ◌∷◌, ◌++◌, refl, ap, sym, subst, ◌∙◌}
 use Rattle.nb_script.specs.declared.lexeme.Keyword.{Keyword}
 use Rattle.nb_script.specs.declared.lexeme.Keyword.TheVariants as kw
 use Rattle.nb_script.specs.declared.lexeme.Symbol.TheVariants as sym'
@@ -12,21 +11,9 @@ use Rattle.nb_script.specs.declared.stmt.Destination.{Destination}
 use Rattle.nb_script.specs.declared.stmt.Destination.TheVariants as destination
 use Rattle.nb_script.specs.declared.stmt.Refusal.{Refusal}
 use Rattle.nb_script.specs.declared.stmt.Refusal.TheVariants as refusal
-use Rattle.nb_script.specs.declared.item.FieldKind.{FieldKind}
-use Rattle.nb_script.specs.declared.item.FieldKind.TheVariants as kind
-use Rattle.nb_script.specs.declared.item.Field.{Field as FieldLine}
-use Rattle.nb_script.specs.declared.item.Literal.{Literal}
-use Rattle.nb_script.specs.declared.item.Literal.TheVariants as literal
-use Rattle.nb_script.specs.declared.item.Since.{Since}
-use Rattle.nb_script.specs.declared.item.Revision.{Revision}
-use Rattle.nb_script.specs.declared.item.Finder.{Finder}
-use Rattle.nb_script.specs.declared.item.Finder.TheVariants as finder
-use Rattle.nb_script.specs.declared.item.Answer.{Answer}
-use Rattle.nb_script.specs.declared.item.Answer.TheVariants as answer
 use Rattle.nb_script.specs.Words.{keyword_text, keyword_of}
-use Rattle.nb_script.specs.Grammar.{Term, Number, ArgTerm, MakeTerm, RowTerm, AfterTerm}
+use Rattle.nb_script.specs.Grammar.{Term, MakeTerm, RowTerm, AfterTerm}
 use Rattle.nb_script.specs.Grammar.{Phrase, Let, Set, Put, Add, Erase, Send, Publish, Reply, Timeout, Complete, Refuse, If, Phrases, Nil, Then, Braces, Brace, Otherwise, Nothing, Last, Chain}
-use Rattle.nb_script.specs.Grammar.{PartTerm, ByField, ById, SagaTerm, ItemTerm, Message, Handler, Saga}
 use Rattle.nb_script.specs.Spelling as spell
 use Rattle.nb_script.specs.Spelling.{Mark, each, Every, Strung, Always, is_zero, one_less, IsName, IsWithin, IsDotted, IsTypeName, IsArg, IsMake, IsRowName, IsDelay, IsStatement, AreStatements, IsBlock, IsAlternative, IsPart, IsSaga, IsItem, arg_goes_on, message_field_goes_on, saga_field_goes_on, destination_key, refusal_key, kind_key, truth_key, finder_key, answer_key}
 use Rattle.nb_script.specs.Reading.{Source, Parser, ret, look, ◌>>=◌, take, want_symbol, always, closes, is_close_brace, many, seen, seen_word, by_seen, expr}
@@ -34,12 +21,11 @@ use Rattle.nb_script.specs.ReadingScript as read
 use Rattle.nb_script.specs.ReadingScript.{in_row, Branch, Inside}
 use Rattle.nb_script.specs.declared.lexeme.Lexeme.{Lexeme}
 use Rattle.nb_script.specs.declared.lexeme.Content.{Content}
-use Rattle.nb_script.specs.declared.expr.Dotted.{Dotted}
 use Rattle.nb_script.specs.declared.fault.Fault.TheVariants.{Expected}
 use Rattle.nb_script.specs.Spelling.{MayPrecede, lexeme, is_there}
 use Rattle.nb_script.proofs.Complete as law
 use Rattle.nb_script.proofs.Complete.{Excuse, Meets, split, Reads, ret_reads, bind_reads, bind_stops, look_reads, same_reads, Opens, IsRow, many_complete}
-use Rattle.nb_script.proofs.Tokens.{symbol_token, word_token, past_symbol_reads, past_symbol_stops, past_word_reads, past_word_stops, symbol_reads, this_reads, key_reads, word_reads, name_reads, number_reads, quoted_reads}
+use Rattle.nb_script.proofs.OneToken.{symbol_token, word_token, past_symbol_reads, past_symbol_stops, past_word_reads, past_word_stops, symbol_reads, key_reads, word_reads, name_reads}
 use Rattle.nb_script.proofs.Operators.{EndsAll, ends_symbol, ends_word}
 use Rattle.nb_script.proofs.CompleteExpr.{expr_complete}
 use Rattle.nb_script.specs.Reading as reading
@@ -240,7 +226,7 @@ unfolding read.after_statement read.after
 after_reads E lines far room a p to x s fits g k m h =
     let parts = split E g (suc k) (spell.expression room a.delay) (spell.key (destination_key to) p ∷ (spell.make room x ++ spell.symbol sym'.Semi s ∷ [])) m h.2 in
     let delay : Reads E (read.after room) g k a parts.mid =
-        bind_reads _ (key_reads kw.After h.0) (bind_reads _ (expr_complete E room a.delay fits.0 g (suc k) parts.mid parts.front (ends_at _ g parts.mid (ends_word (keyword_text (destination_key to)) p) parts.back.0)) (ret_reads E a g parts.mid parts.mid refl)) in
+    bind_reads _ (key_reads kw.After h.0) (bind_reads _ (expr_complete E room a.delay fits.0 g (suc k) parts.mid parts.front (ends_at _ g parts.mid (ends_word (keyword_text (destination_key to)) p) parts.back.0)) (ret_reads E a g parts.mid parts.mid refl)) in
     bind_reads _ delay (seen_sent E lines room (Some a) p to g parts.mid _ m parts.back.0 (sent_reads E lines far room (Some a) p to x s fits.1 g parts.mid m parts.back))
 
 publish_reads : (E : Excuse) (lines : ℕ) → Far E lines → (room p : ℕ) (x : MakeTerm) (s : ℕ) → IsMake x → (g : Source) (k m : ℕ) → Meets E g k (spell.statement room (Publish p x s)) m → Reads E (read.publish_statement lines room) g k (Publish p x s) m
@@ -367,7 +353,7 @@ block_complete E (suc room) i l (Brace o b q) fits g k m s =
     let parts = split E g (suc k) (spell.statements room b) (spell.symbol sym'.CloseBrace q ∷ []) m s.2 in
     let body = (l refl).body (row_of b) (row_all b fits) g (suc k) parts.mid (subst (λ xs. Meets E g (suc k) xs parts.mid) (row_spelled room b) parts.front) (closes_at g parts.mid q parts.back.0) in
     let whole : Reads E (read.block (suc room) i) g k (Brace o (in_row (row_of b)) q) m =
-        bind_reads _ (past_symbol_reads E false sym'.OpenBrace o g k s.0 s.1) (bind_reads _ body (bind_reads _ (symbol_reads sym'.CloseBrace parts.back.0) (ret_reads E _ g _ m parts.back.2))) in
+    bind_reads _ (past_symbol_reads E false sym'.OpenBrace o g k s.0 s.1) (bind_reads _ body (bind_reads _ (symbol_reads sym'.CloseBrace parts.back.0) (ret_reads E _ g _ m parts.back.2))) in
     subst (λ b. Reads E (read.block (suc room) i) g k (Brace o b q) m) (row_back b) whole
 
 else_if_reads : (E : Excuse) (room : ℕ) (i : Inside) → InRoom E room i → (p q : ℕ) (e : Term) (b : Braces) (o : Otherwise) → IsAlternative (Chain p q e b o) → (g : Source) (k m : ℕ)

@@ -1,14 +1,14 @@
 -- The answer is right: the script's tokens are the text's, and a fault stands at the first token that can't go on.
-use Rattle.std.proofs.Common.{◌≡◌, ℕ, zero, suc, ◌+◌, ◌≤◌, ◌<◌, ◌↔◌, Some, None, Ok, Err, Option, Bool, true, false, List, [], ◌∷◌, ◌++◌, length, slice_get, map, refl, ap, sym, subst, ◌∙◌, arith}
+use Rattle.std.proofs.Common.{◌≡◌, ℕ, zero, suc, ◌+◌, ◌≤◌, ◌<◌, Some, None, Ok, Err, Option, true, false, List, [], ◌∷◌, ◌++◌, length, slice_get, refl, ap, sym, subst, ◌∙◌, arith}
 use Rattle.nb_script.specs.declared.lexeme.Lexeme.{Lexeme}
 use Rattle.nb_script.specs.declared.fault.Fault.{Fault}
 use Rattle.nb_script.specs.declared.fault.Fault.TheVariants.{TooDeep, Expected}
 use Rattle.nb_script.specs.Grammar.{ItemTerm}
-use Rattle.nb_script.specs.Spelling.{Mark, each, item, Every, Strung, IsItem, IsScript, lexemes, script_marks}
+use Rattle.nb_script.specs.Spelling.{Mark, each, item, Strung, IsItem, IsScript, lexemes, script_marks}
 use Rattle.nb_script.specs.Reading.{Source, Outcome, always, many, and_then}
 use Rattle.nb_script.specs.ReadingScript as read
 use Rattle.nb_script.specs.ReadingScript.{whole}
-use Rattle.nb_script.specs.Answer.{Agrees, Keeps, Begins, Starts, IsFirstPlace, Spells}
+use Rattle.nb_script.specs.Answer.{Agrees, Begins, Starts, IsFirstPlace, Spells}
 use Rattle.nb_script.proofs.Laws.{Stands, Begun, Reaches, Explains, end}
 use Rattle.nb_script.proofs.Complete.{Excuse, Meets, Reads, Gets, Stops}
 use Rattle.nb_script.proofs.SoundScript.{strung_every}
@@ -46,9 +46,11 @@ list_meets : (E : Excuse) (g : Source) (k : ℕ) (xs : List Mark) → ((j : ℕ)
 list_meets E g k [] at excused = omega arith
 list_meets E g k (x ∷ xs) at excused =
     let here : g k ≡ Some x.lexeme = subst (λ i. g i ≡ Some x.lexeme) (omega arith) (at 0) in
-    let same : suc k + length xs ≡ k + length (x ∷ xs) = omega arith in
-    (here, (λ p. subst (λ i. E TooDeep i) (omega arith) (excused 0 x refl p)),
-    subst (λ m. Meets E g (suc k) xs m) same (list_meets E g (suc k) xs (λ j. subst (λ i. g i ≡ slice_get (lexemes xs) j) (omega arith) (at (suc j))) (λ j y e p. subst (λ i. E TooDeep i) (omega arith) (excused (suc j) y e p))))
+    let same : suc k + length xs ≡ k + length (x ∷ xs) = omega arith in (
+      here,
+      (λ p. subst (λ i. E TooDeep i) (omega arith) (excused 0 x refl p)),
+      subst (λ m. Meets E g (suc k) xs m) same (list_meets E g (suc k) xs (λ j. subst (λ i. g i ≡ slice_get (lexemes xs) j) (omega arith) (at (suc j))) (λ j y e p. subst (λ i. E TooDeep i) (omega arith) (excused (suc j) y e p))),
+    )
 
 after_list : (xs : List Mark) → slice_get (lexemes xs) (length xs) ≡ None
 after_list [] = refl
@@ -159,9 +161,9 @@ none_agrees ts f k out s all agrees kept =
     let b = begun lines ts f k out in
     let few : k ≤ length ts = stands_within ts 0 b.front k (omega arith) b.stands in
     let read : Reads (Other f k) (whole lines 100) g 0 s (0 + length (script_marks s)) =
-        whole_complete (Other f k) lines (λ j le e same. (let no : suc (length ts) ≤ k = subst (λ i. suc (length ts) ≤ i) same le in absurd (omega arith))) 100 s (every_strung IsItem s all) g (0 + length (script_marks s))
-        (list_meets (Other f k) g 0 (script_marks s) (λ j. ap g (plus j)) (λ j x e p. subst (λ i. Other f k TooDeep i) (sym (plus j)) (kept j x e p)))
-        (ap g (plus (length (script_marks s))) ∙ after_list (script_marks s)) in
+    whole_complete (Other f k) lines (λ j le e same. (let no : suc (length ts) ≤ k = subst (λ i. suc (length ts) ≤ i) same le in absurd (omega arith))) 100 s (every_strung IsItem s all) g (0 + length (script_marks s))
+    (list_meets (Other f k) g 0 (script_marks s) (λ j. ap g (plus j)) (λ j x e p. subst (λ i. Other f k TooDeep i) (sym (plus j)) (kept j x e p)))
+    (ap g (plus (length (script_marks s))) ∙ after_list (script_marks s)) in
     elim read [ Gets e ↦ apart (whole lines 100 g 0) _ _ e here | Stops x ↦ clash f x.fault k x.at (whole lines 100 g 0) here x.is x.excuse ]
 
 which_fault : (ts : List Lexeme) (f : Fault) (k : ℕ) → Stopped (suc (length ts)) ts f k → Begins ts (suc k) → f ≡ TooDeep

@@ -1,6 +1,6 @@
 pub mod Laws
 pub mod Complete
-pub mod Tokens
+pub mod OneToken
 pub mod Operators
 pub mod SoundExpr
 pub mod CompleteExpr
@@ -11,3 +11,7 @@ pub mod CompleteItems
 pub mod First
 pub mod Chain
 pub mod Rows
+pub mod TextLen
+pub mod LexTurns
+pub mod Digits
+pub mod Parsed

@@ -1,12 +1,9 @@
 -- Operators as tokens, and the levels at which they may stand.
-use Rattle.std.proofs.Common.{◌≡◌, ◌≢◌, inl, inr, ℕ, zero, suc, ◌+◌, ◌-◌, ◌==◌, ◌≤◌, ◌<◌, Option, Some, None, Bool, true, false, refl, ap, sym, subst, ◌∙◌, arith}
+use Rattle.std.proofs.Common.{◌≡◌, ◌≢◌, inl, inr, ℕ, suc, ◌-◌, ◌==◌, ◌≤◌, ◌<◌, Option, Some, None, Bool, true, false, refl, ap, sym, subst, ◌∙◌, arith}
 use Rattle.std.proofs.lemmas.Bool.{eqb-true}
 use Rattle.std.proofs.lemmas.Bool.Decides.{eqb_tells}
 use Rattle.nb_script.specs.declared.lexeme.Keyword.{Keyword}
 use Rattle.nb_script.specs.declared.lexeme.Symbol.{Symbol}
-use Rattle.nb_script.specs.declared.lexeme.Symbol.TheVariants as sym'
-use Rattle.nb_script.specs.declared.lexeme.Content.{Content}
-use Rattle.nb_script.specs.declared.lexeme.Content.TheVariants as c
 use Rattle.nb_script.specs.declared.lexeme.Lexeme.{Lexeme}
 use Rattle.nb_script.specs.declared.lexeme.Seen.{Seen}
 use Rattle.nb_script.specs.declared.lexeme.Seen.TheVariants as see
@@ -14,9 +11,9 @@ use Rattle.nb_script.specs.declared.expr.Binary.{Binary}
 use Rattle.nb_script.specs.declared.expr.Binary.TheVariants as binary
 use Rattle.nb_script.specs.Words.{keyword_of}
 use Rattle.nb_script.specs.Grammar.{Term, Number, Quoted, Constant, Field, Name, Call, Paren, Prefix, Infix}
-use Rattle.nb_script.specs.Spelling.{lexeme, binary_symbol, level, is_alone, left_of, left_level, IsWithin}
+use Rattle.nb_script.specs.Spelling.{binary_symbol, level, is_alone, left_of, left_level, IsWithin}
 use Rattle.nb_script.specs.Reading.{seen, seen_word, kept, at_level, operator_of, operator_in, operator}
-use Rattle.nb_script.proofs.Tokens.{symbol_token, word_token}
+use Rattle.nb_script.proofs.OneToken.{symbol_token, word_token}
 
 -- ---- what is seen as an operator
 

@@ -1,10 +1,9 @@
 -- What is read of an expression is explained by expressions.
-use Rattle.std.proofs.Common.{◌≡◌, ℕ, zero, suc, ◌+◌, ◌-◌, ◌||◌, Option, Some, None, Bool, true, false, List, [], ◌∷◌, ◌++◌, pos, refl, ap, sym, subst, ◌∙◌, arith, append_assoc}
+use Rattle.std.proofs.Common.{◌≡◌, ℕ, zero, suc, ◌-◌, ◌||◌, Option, Some, None, Bool, true, false, [], pos, refl, sym, subst, arith, append_assoc}
 use Rattle.std.proofs.lemmas.List.{append-nil}
 use Rattle.nb_script.specs.declared.lexeme.Keyword.{Keyword}
 use Rattle.nb_script.specs.declared.lexeme.Keyword.TheVariants as k
 use Rattle.nb_script.specs.declared.lexeme.Symbol.TheVariants as sym'
-use Rattle.nb_script.specs.declared.lexeme.Lexeme.{Lexeme}
 use Rattle.nb_script.specs.declared.lexeme.Seen.{Seen}
 use Rattle.nb_script.specs.declared.lexeme.Seen.TheVariants as see
 use Rattle.nb_script.specs.declared.expr.Unary.{Unary}
@@ -17,10 +16,10 @@ use Rattle.nb_script.specs.declared.expr.Holder.TheVariants as holder
 use Rattle.nb_script.specs.declared.expr.Function.{Function}
 use Rattle.nb_script.specs.declared.expr.Function.TheVariants as function
 use Rattle.nb_script.specs.Grammar.{Term, Number, Quoted, Constant, Field, Name, Call, Paren, Prefix, Infix}
-use Rattle.nb_script.specs.Spelling.{Mark, is_zero, one_less, unary_symbol, binary_symbol, constant_key, holder_key, function_key, operators, spelling, expression, level, is_alone, left_of, IsWithin}
-use Rattle.nb_script.specs.Reading.{Parser, ret, look, Deeper, parens, signed, call, constant_word, holder_field, keyed, operand_of, operand_in, operator, turn, chain, once, rest_by, climb, deeper, operand, expr, seen}
+use Rattle.nb_script.specs.Spelling.{is_zero, one_less, unary_symbol, binary_symbol, constant_key, holder_key, function_key, operators, spelling, expression, level, is_alone, left_of, IsWithin}
+use Rattle.nb_script.specs.Reading.{Parser, ret, Deeper, parens, signed, call, constant_word, holder_field, keyed, operand_of, operand_in, operator, turn, chain, once, rest_by, climb, deeper, operand, expr, seen}
 use Rattle.nb_script.proofs.Laws.{Sound, Extends, ret_sound, stop_sound, look_sound, bind_sound}
-use Rattle.nb_script.proofs.Tokens.{past_symbol_sound, symbol_sound, key_sound, word_sound, name_sound, number_sound, quoted_sound}
+use Rattle.nb_script.proofs.OneToken.{past_symbol_sound, symbol_sound, key_sound, word_sound, name_sound, number_sound, quoted_sound}
 use Rattle.nb_script.proofs.Operators.{operator_level, within_more, beside, infix_within}
 
 -- an expression that may stand at a level

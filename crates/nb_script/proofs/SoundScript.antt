@@ -1,39 +1,25 @@
 -- What is read of statements and items is explained by them.
-use Rattle.std.proofs.Common.{◌≡◌, ℕ, zero, suc, Option, Some, None, Bool, true, false, List, [], ◌∷◌, ◌++◌, pos, refl, ap, sym, subst, ◌∙◌, append_assoc, codes}
-use Rattle.std.proofs.lemmas.List.{append-nil}
+use Rattle.std.proofs.Common.{◌≡◌, ℕ, zero, suc, Option, Some, None, Bool, true, false, List, [], ◌∷◌, ◌++◌, pos, refl, ap, sym, ◌∙◌, append_assoc}
 use Rattle.nb_script.specs.declared.lexeme.Keyword.{Keyword}
 use Rattle.nb_script.specs.declared.lexeme.Keyword.TheVariants as k
 use Rattle.nb_script.specs.declared.lexeme.Symbol.TheVariants as sym'
 use Rattle.nb_script.specs.declared.lexeme.Content.TheVariants as c
 use Rattle.nb_script.specs.declared.lexeme.Seen.{Seen}
 use Rattle.nb_script.specs.declared.lexeme.Seen.TheVariants as see
-use Rattle.nb_script.specs.declared.expr.TypeName.{TypeName}
 use Rattle.nb_script.specs.declared.stmt.Destination.{Destination}
 use Rattle.nb_script.specs.declared.stmt.Destination.TheVariants as destination
 use Rattle.nb_script.specs.declared.stmt.Refusal.{Refusal}
 use Rattle.nb_script.specs.declared.stmt.Refusal.TheVariants as refusal
-use Rattle.nb_script.specs.declared.item.FieldKind.{FieldKind}
-use Rattle.nb_script.specs.declared.item.FieldKind.TheVariants as kind
-use Rattle.nb_script.specs.declared.item.Field.{Field as FieldLine}
-use Rattle.nb_script.specs.declared.item.Literal.{Literal}
-use Rattle.nb_script.specs.declared.item.Literal.TheVariants as literal
-use Rattle.nb_script.specs.declared.item.Since.{Since}
-use Rattle.nb_script.specs.declared.item.Revision.{Revision}
-use Rattle.nb_script.specs.declared.item.Finder.{Finder}
-use Rattle.nb_script.specs.declared.item.Finder.TheVariants as finder
-use Rattle.nb_script.specs.declared.item.Answer.{Answer}
-use Rattle.nb_script.specs.declared.item.Answer.TheVariants as answer
-use Rattle.nb_script.specs.Words.{keyword_text, keyword_of}
-use Rattle.nb_script.specs.Grammar.{Term, Number, ArgTerm, MakeTerm, RowTerm, AfterTerm}
-use Rattle.nb_script.specs.Grammar.{Phrase, Let, Set, Put, Add, Erase, Send, Publish, Reply, Timeout, Complete, Refuse, If, Phrases, Nil, Then, Braces, Brace, Otherwise, Nothing, Last, Chain}
-use Rattle.nb_script.specs.Grammar.{PartTerm, ByField, ById, SagaTerm, ItemTerm, Message, Handler, Saga}
+use Rattle.nb_script.specs.Words.{keyword_text}
+use Rattle.nb_script.specs.Grammar.{Number, AfterTerm}
+use Rattle.nb_script.specs.Grammar.{Phrase, Let, Set, Put, Add, Erase, Send, Publish, Reply, Timeout, Complete, Refuse, If, Nil, Brace, Nothing, Last, Chain}
 use Rattle.nb_script.specs.Spelling as spell
 use Rattle.nb_script.specs.Spelling.{Mark, each, Every, Strung, Always, is_zero, one_less, IsName, IsWithin, IsDotted, IsTypeName, IsArg, IsMake, IsRowName, IsDelay, IsStatement, AreStatements, IsBlock, IsAlternative, IsPart, IsSaga, IsItem, arg_goes_on, message_field_goes_on, saga_field_goes_on, destination_key, refusal_key, kind_key, truth_key, finder_key, answer_key}
-use Rattle.nb_script.specs.Reading.{Parser, ret, look, always, closes, many, seen, expr}
+use Rattle.nb_script.specs.Reading.{Parser, always, closes, seen}
 use Rattle.nb_script.specs.ReadingScript as read
 use Rattle.nb_script.specs.ReadingScript.{in_row, Branch, Inside}
 use Rattle.nb_script.proofs.Laws.{Sound, Extends, ret_sound, stop_sound, look_sound, bind_sound, many_sound}
-use Rattle.nb_script.proofs.Tokens.{past_symbol_sound, past_word_sound, symbol_sound, this_sound, key_sound, word_sound, name_sound, number_sound, quoted_sound}
+use Rattle.nb_script.proofs.OneToken.{past_symbol_sound, past_word_sound, symbol_sound, key_sound, word_sound, name_sound}
 use Rattle.nb_script.proofs.SoundExpr.{expr_sound}
 
 pub strung_every : {A : Type 0} (P : A → Type 0) (xs : List A) → Strung always P xs → Every P xs

@@ -1,5 +1,5 @@
 -- How a script is read, token by token: the steps that the parser's functions take.
-use Rattle.std.specs.Prelude.{◌≡◌, ℕ, ℤ, zero, suc, ◌+◌, ◌-◌, ◌==◌, ◌||◌, Bool, true, false, List, [], ◌∷◌, Option, Some, None, Result, Ok, Err, bytes_eq, codes}
+use Rattle.std.specs.Prelude.{ℕ, ℤ, zero, suc, ◌-◌, ◌==◌, ◌||◌, Bool, true, false, List, [], ◌∷◌, Option, Some, None, Result, Ok, Err, bytes_eq}
 use Rattle.nb_script.specs.declared.lexeme.Keyword.{Keyword}
 use Rattle.nb_script.specs.declared.lexeme.Keyword.TheVariants as k
 use Rattle.nb_script.specs.declared.lexeme.Symbol.{Symbol}
@@ -23,7 +23,7 @@ use Rattle.nb_script.specs.declared.expr.Function.{Function}
 use Rattle.nb_script.specs.declared.expr.Function.TheVariants as function
 use Rattle.nb_script.specs.Words.{keyword_text, keyword_of}
 use Rattle.nb_script.specs.Grammar.{Term, Number, Quoted, Constant, Field, Name, Call, Paren, Prefix, Infix}
-use Rattle.nb_script.specs.Spelling.{is_zero, one_less, unary_symbol, binary_symbol, constant_key, holder_key, function_key, operators, level, is_alone}
+use Rattle.nb_script.specs.Spelling.{is_zero, unary_symbol, binary_symbol, constant_key, holder_key, function_key, operators, level, is_alone}
 
 -- the tokens by their numbers
 abbrev pub Source : Type 0

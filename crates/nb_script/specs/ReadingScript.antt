@@ -1,5 +1,5 @@
 -- How statements and items are read, token by token.
-use Rattle.std.specs.Prelude.{◌≡◌, ℕ, zero, suc, Bool, true, false, List, [], ◌∷◌, Option, Some, None, Result, Ok, Err, bytes_eq, codes}
+use Rattle.std.specs.Prelude.{ℕ, zero, suc, Bool, true, false, List, [], ◌∷◌, Option, Some, None, codes}
 use Rattle.nb_script.specs.declared.lexeme.Keyword.{Keyword}
 use Rattle.nb_script.specs.declared.lexeme.Keyword.TheVariants as k
 use Rattle.nb_script.specs.declared.lexeme.Symbol.TheVariants as sym
@@ -29,9 +29,9 @@ use Rattle.nb_script.specs.declared.item.Answer.TheVariants as answer
 use Rattle.nb_script.specs.Words.{keyword_text}
 use Rattle.nb_script.specs.Grammar.{ArgTerm, MakeTerm, RowTerm, AfterTerm, Term}
 use Rattle.nb_script.specs.Grammar.{Phrase, Let, Set, Put, Add, Erase, Send, Publish, Reply, Timeout, Complete, Refuse, If, Phrases, Nil, Then, Braces, Brace, Otherwise, Nothing, Last, Chain}
-use Rattle.nb_script.specs.Grammar.{PartTerm, ByField, ById, SagaTerm, ItemTerm, Message, Handler, Saga}
-use Rattle.nb_script.specs.Spelling.{is_zero, is_there, arg_goes_on, destination_key, refusal_key, kind_key, truth_key, finder_key, answer_key, message_field_goes_on, saga_field_goes_on}
-use Rattle.nb_script.specs.Reading.{Source, Outcome, Parser, ret, fail, and_then, ◌>>=◌, look, by_seen, seen, take, want_this, want_symbol, symbol, this, key, word, name, number, quoted, many, closes, always, is_word, expr}
+use Rattle.nb_script.specs.Grammar.{PartTerm, ByField, ById, ItemTerm, Message, Handler, Saga}
+use Rattle.nb_script.specs.Spelling.{is_zero, arg_goes_on, destination_key, refusal_key, kind_key, truth_key, finder_key, answer_key, message_field_goes_on, saga_field_goes_on}
+use Rattle.nb_script.specs.Reading.{Parser, ret, fail, ◌>>=◌, look, by_seen, seen, take, want_this, want_symbol, symbol, this, key, word, name, number, quoted, many, closes, always, is_word, expr}
 
 -- ---- types, and messages that are made; a list has at most so many lines
 

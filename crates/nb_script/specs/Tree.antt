@@ -24,7 +24,7 @@ use Rattle.nb_script.specs.declared.item.Saga.{Saga as SagaTree}
 use Rattle.nb_script.specs.declared.item.Item.{Item}
 use Rattle.nb_script.specs.declared.item.Item.TheVariants as i
 use Rattle.nb_script.specs.Grammar.{Term, Number, Quoted, Constant, Field, Name, Call, Paren, Prefix, Infix, ArgTerm, MakeTerm, RowTerm, AfterTerm}
-use Rattle.nb_script.specs.Grammar.{Phrase, Let, Set, Put, Add, Erase, Send, Publish, Reply, Timeout, Complete, Refuse, If, Phrases, Nil, Then, Braces, Brace, Otherwise, Nothing, Last, Chain}
+use Rattle.nb_script.specs.Grammar.{Phrase, Let, Set, Put, Add, Erase, Send, Publish, Reply, Timeout, Complete, Refuse, If, Phrases, Braces, Brace, Otherwise, Nothing, Last, Chain}
 use Rattle.nb_script.specs.Grammar.{PartTerm, ByField, ById, SagaTerm, ItemTerm, Message, Handler, Saga}
 
 -- ---- expressions

@@ -278,13 +278,7 @@ impl Parser<'_> {
     }
 
     #[cycle(expr)]
-    fn signed(
-        &self,
-        room: u32,
-        left: u32,
-        op: Unary,
-        at: usize,
-    ) -> Result<(Counted, usize), Halt>
+    fn signed(&self, room: u32, left: u32, op: Unary, at: usize) -> Result<(Counted, usize), Halt>
         ensures value { Gives (λ x. (tree x.0.expr, x.1)) result (read.signed (is_zero room) (read.deeper room) left op (slice_get self.now.lexemes.now) at) }
         ensures count { IfOk result (λ x. x.0.left ≡ left - operators (tree x.0.expr)) }
     {
@@ -346,13 +340,7 @@ impl Parser<'_> {
     // An expression of operators up to a level.
     #[cycle(expr)]
     #[tactic(auto, unfolding(crate::specs::Reading::climb))]
-    fn climb(
-        &self,
-        level: u32,
-        room: u32,
-        left: u32,
-        at: usize,
-    ) -> Result<(Counted, usize), Halt>
+    fn climb(&self, level: u32, room: u32, left: u32, at: usize) -> Result<(Counted, usize), Halt>
         requires { level ≤ 5 }
         ensures value { Gives (λ x. (tree x.0.expr, x.1)) result (read.climb level (read.operand room) left (slice_get self.now.lexemes.now) at) }
         ensures count { IfOk result (λ x. x.0.left ≡ left - operators (tree x.0.expr)) }

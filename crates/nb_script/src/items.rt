@@ -8,8 +8,8 @@ ghost use Rattle.nb_script.specs.ReadingScript as read;
 
 use crate::fault::{Fault, Halt};
 use crate::item::{
-    Answer, Field, FieldKind, Finder, Item, Literal, MessageField, Part, Revision, Saga,
-    SagaField, Since,
+    Answer, Field, FieldKind, Finder, Item, Literal, MessageField, Part, Revision, Saga, SagaField,
+    Since,
 };
 use crate::lexeme::{Keyword, Seen, Symbol};
 use crate::parser::Parser;

@@ -321,12 +321,7 @@ impl Parser<'_> {
     }
 
     // What stands behind a delay.
-    fn sent_by(
-        &self,
-        room: u32,
-        delay: Option<After>,
-        at: usize,
-    ) -> Result<(Stmt, usize), Halt>
+    fn sent_by(&self, room: u32, delay: Option<After>, at: usize) -> Result<(Stmt, usize), Halt>
         ensures { Gives (λ x. (phrase x.0, x.1)) result (step.by_seen (read.sent_by (suc (length self.now.lexemes.now)) room (option_map seen.after delay)) (slice_get self.now.lexemes.now) at) }
     {
         match self.seen(at) {

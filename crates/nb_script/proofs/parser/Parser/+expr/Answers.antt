@@ -31,11 +31,13 @@ chain-loop-preserved t c =
     let e = tree c.loop.so_far.expr in
     let before : c.loop.so_far.left ≡ c.args.left - operators (tree c.loop.so_far.expr) = c.loop.invariant.1 in
     let count : c.in_ok-more.more.left ≡ c.loop.so_far.left - (operators (tree c.in_ok-more.more.expr) - operators (tree c.loop.so_far.expr)) = c.in_ok-more.ensures.count in
-    let more : operators (tree c.loop.so_far.expr) < operators (tree c.in_ok-more.more.expr) = c.in_ok-more.ensures.more in
-    (sym (chain_turn (suc c.args.left) c.loop.counter c.args.level next c.args.left e c.in-Some.op g c.loop.here (omega arith) (sym c.in-Some.ensures)
-    ∙ ap (λ n. and_then (joined n next e c.in-Some.op g c.loop.here) (λ x m. chain (suc c.args.left - (c.loop.counter + 1)) c.args.level next c.args.left x g m)) (sym c.loop.invariant.1)
-    ∙ ap (λ r. and_then r (λ x m. chain (suc c.args.left - (c.loop.counter + 1)) c.args.level next c.args.left x g m)) c.in_ok-more.ensures.value)
-    ∙ c.loop.invariant.0, (omega arith))
+    let more : operators (tree c.loop.so_far.expr) < operators (tree c.in_ok-more.more.expr) = c.in_ok-more.ensures.more in (
+      sym (chain_turn (suc c.args.left) c.loop.counter c.args.level next c.args.left e c.in-Some.op g c.loop.here (omega arith) (sym c.in-Some.ensures)
+          ∙ ap (λ n. and_then (joined n next e c.in-Some.op g c.loop.here) (λ x m. chain (suc c.args.left - (c.loop.counter + 1)) c.args.level next c.args.left x g m)) (sym c.loop.invariant.1)
+          ∙ ap (λ r. and_then r (λ x m. chain (suc c.args.left - (c.loop.counter + 1)) c.args.level next c.args.left x g m)) c.in_ok-more.ensures.value)
+          ∙ c.loop.invariant.0,
+      (omega arith),
+    )
 
 pub chain-returns-clause-value : goal.chain-returns-clause-value
 chain-returns-clause-value t c = sym c.loop.invariant.0 ∙ chain_over (suc c.args.left - c.loop.counter) _ _ _ _ _ _ (omega arith)

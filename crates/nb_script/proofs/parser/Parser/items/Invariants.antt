@@ -1,5 +1,5 @@
 use Rattle.std.proofs.Common.{◌≡◌, ◌-◌, suc, slice_get, length, map}
-use Rattle.nb_script.specs.Reading.{many, closes, always}
+use Rattle.nb_script.specs.Reading.{many, always}
 use Rattle.nb_script.specs.ReadingScript as read
 use Rattle.nb_script.specs.Tree.{item}
 use Rattle.nb_script.proofs.Rows.{before}

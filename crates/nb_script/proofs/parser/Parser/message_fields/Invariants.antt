@@ -1,5 +1,5 @@
-use Rattle.std.proofs.Common.{◌≡◌, ◌-◌, suc, slice_get, length, map}
-use Rattle.nb_script.specs.Reading.{many, closes, always}
+use Rattle.std.proofs.Common.{◌≡◌, ◌-◌, suc, slice_get, length}
+use Rattle.nb_script.specs.Reading.{many, closes}
 use Rattle.nb_script.specs.ReadingScript as read
 use Rattle.nb_script.specs.Spelling.{message_field_goes_on}
 use Rattle.nb_script.proofs.Rows.{before}

@@ -1,9 +1,9 @@
-use Rattle.std.proofs.Common.{◌≡◌, ◌-◌, ◌+◌, ◌++◌, ◌∷◌, [], suc, Bool, true, false, slice_get, length, map, Ok, refl, ap, sym, ◌∙◌, arith}
+use Rattle.std.proofs.Common.{◌-◌, ◌+◌, suc, slice_get, length, refl, ap, sym, ◌∙◌, arith}
 use Rattle.std.proofs.lemmas.Result.{err_from_is_err_and}
-use Rattle.nb_script.specs.Reading.{many, closes, always}
+use Rattle.nb_script.specs.Reading.{many, always}
 use Rattle.nb_script.specs.ReadingScript as read
 use Rattle.nb_script.proofs.Chain.{passes_on}
-use Rattle.nb_script.proofs.Rows.{before, nothing_before, map_push, many_stops, many_over, many_fault, many_next}
+use Rattle.nb_script.proofs.Rows.{before, many_stops, many_over, many_fault, many_next}
 use Rattle.nb_script.proofs.parser.Parser.others.Goals as goal
 
 pub returns-then-no_dot : goal.returns-then-no_dot

@@ -1,10 +1,9 @@
 -- One token: what is taken is the one that is wanted, and what is wanted is taken.
-use Rattle.std.proofs.Common.{◌≡◌, ℕ, ℤ, zero, suc, ◌==◌, Option, Some, None, Bool, true, false, List, [], ◌∷◌, pos, refl, ap, sym, subst, ◌∙◌, if◌then◌else◌}
+use Rattle.std.proofs.Common.{◌≡◌, ℕ, ℤ, suc, ◌==◌, Option, Some, None, Bool, true, false, List, [], pos, refl, ap, sym, subst, ◌∙◌, if◌then◌else◌}
 use Rattle.std.specs.Str.{bytes_eq}
 use Rattle.std.proofs.lemmas.Slice.Eq.{bytes_eq-Decides}
 use Rattle.std.proofs.lemmas.Bool.{eqb-true}
 use Rattle.nb_script.specs.declared.lexeme.Keyword.{Keyword}
-use Rattle.nb_script.specs.declared.lexeme.Keyword.TheVariants as k
 use Rattle.nb_script.specs.declared.lexeme.Symbol.{Symbol}
 use Rattle.nb_script.specs.declared.lexeme.Symbol.TheVariants as sym'
 use Rattle.nb_script.specs.declared.lexeme.Content.{Content}
@@ -12,8 +11,8 @@ use Rattle.nb_script.specs.declared.lexeme.Content.TheVariants as c
 use Rattle.nb_script.specs.declared.lexeme.Lexeme.{Lexeme}
 use Rattle.nb_script.specs.declared.fault.Fault.TheVariants.{TooDeep}
 use Rattle.nb_script.specs.Words.{keyword_text, keyword_of}
-use Rattle.nb_script.specs.Spelling.{Mark, lexeme, IsName, Always}
-use Rattle.nb_script.specs.Reading.{Source, Parser, place_if, symbol_code, is_symbol, want_symbol, is_word, want_this, want_word, unless_key, want_name, want_number, want_quoted, take, symbol, this, key, word, name, number, quoted}
+use Rattle.nb_script.specs.Spelling.{lexeme, IsName, Always}
+use Rattle.nb_script.specs.Reading.{Source, place_if, symbol_code, is_symbol, want_symbol, is_word, want_this, want_word, unless_key, want_name, want_number, want_quoted, take, symbol, this, key, word, name, number, quoted}
 use Rattle.nb_script.proofs.Laws.{Sound, one, IsWanted, take_sound}
 use Rattle.nb_script.proofs.Complete.{Excuse, Halts, Reads, take_reads, take_stops}
 
