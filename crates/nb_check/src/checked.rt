@@ -95,6 +95,13 @@ impl Checked {
         &self.names
     }
 
+    /// Whether a saga of this name is declared.
+    pub fn has_saga(&self, saga: &Text) -> bool
+        ensures { result ≡ is_some (saga_named saga.now (sagas (script self.now))) }
+    {
+        saga_named(saga, self.kinds.as_slice()).is_some()
+    }
+
     /// Whether a stored saga fits its type, where that is declared: its revision lies from 1 to the declared one, and it
     /// has the kind of the correlation property and exactly the fields that its revision has, in order with their kinds.
     pub fn fits(&self, saga: &Text, row: &SagaRow) -> bool

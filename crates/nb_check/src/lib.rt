@@ -26,6 +26,3 @@ pub use met::Blocks;
 pub use refused::Refused;
 pub use sight::{Judgement, Local, SagaSight, Sight, Taken};
 pub use types::{Declared, MessageType, SagaType, StateField};
-
-#[cfg(test)]
-mod tests;
