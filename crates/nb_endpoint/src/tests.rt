@@ -239,23 +239,29 @@ fn bad_input_is_refused_with_its_place(rt: HostRuntime) -> Result<(), Fail> {
     Ok(())
 }
 
+/// The code with which words end on an input whose first read fails.
+fn code_unread(alloc: Global, words: &[&str]) -> Result<u8, Fail> {
+    let ended = run(alloc, words, b"{", [1].as_slice(), [].as_slice())?;
+    Ok(ended.status.code())
+}
+
 #[test]
-fn other_words_are_refused(rt: HostRuntime) -> Result<(), Fail> {
+fn other_words_are_refused_before_anything_is_read(rt: HostRuntime) -> Result<(), Fail> {
     let alloc = rt.alloc();
+    assert_eq!(rt; code_unread(alloc, ["fly"].as_slice())?, 2);
+    assert_eq!(rt; code_unread(alloc, [].as_slice())?, 2);
+    assert_eq!(rt; code_unread(alloc, ["show"].as_slice())?, 2);
+    assert_eq!(rt; code_unread(alloc, ["--help"].as_slice())?, 2);
+    assert_eq!(rt;
+        code_unread(alloc, ["run", "--workers", "0"].as_slice())?,
+        2
+    );
+    assert_eq!(rt;
+        code_unread(alloc, ["run", "--at", "1", "--at", "1"].as_slice())?,
+        2
+    );
     assert_eq!(rt;
         refusal(alloc, ["fly"].as_slice(), "{")?.as_str(),
-        "2 words refused 0"
-    );
-    assert_eq!(rt;
-        refusal(alloc, [].as_slice(), "{")?.as_str(),
-        "2 words refused 0"
-    );
-    assert_eq!(rt;
-        refusal(alloc, ["show"].as_slice(), "{")?.as_str(),
-        "2 words refused 0"
-    );
-    assert_eq!(rt;
-        refusal(alloc, ["run", "--workers", "0"].as_slice(), "{")?.as_str(),
         "2 words refused 0"
     );
     Ok(())
