@@ -1,3 +1,4 @@
+pub mod Copies
 pub mod HeaderLaws
 pub mod Joins
 pub mod ListLaws

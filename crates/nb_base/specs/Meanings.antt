@@ -96,3 +96,10 @@ pub record IsRightPlan (meaning : Meaning) (t : Stored) (plan : Plan) : Type 0 w
 pub record IsMeaning (meaning : Meaning) : Type 0 where
   pub local : (t : Stored) → IsSoundStored t → AllFit meaning t → (m : Message) (at : ℕ) → meaning.on_reads (seen t (meaning.keys m)) m at ≡ meaning.verdict t m at
   pub plans : (t : Stored) → IsSoundStored t → AllFit meaning t → (m : Message) (at : ℕ) (plan : Plan) → meaning.verdict t m at ≡ verdict.Done plan → IsRightPlan meaning t plan
+
+-- the reads are what some sound tables, which the script takes, show at the message's keys
+pub record IsShown (meaning : Meaning) (m : Message) (reads : List Read) : Type 0 where
+  pub tables : Stored
+  pub sound : IsSoundStored tables
+  pub fit : AllFit meaning tables
+  pub shown : reads ≡ seen tables (meaning.keys m)

@@ -1,10 +1,11 @@
 //! A finite map from names.
-ghost use Rattle.std.specs.Prelude.{◌≡◌, OnOk, OnErr};
+ghost use Rattle.std.specs.Prelude.{◌≡◌, OnOk, OnErr, None};
 ghost use Rattle.std.specs.Option.{option_copied};
 ghost use Rattle.nb_base.specs.Orders.{name_cmp};
 ghost use Rattle.std.specs.FinMap as map;
 ghost use Rattle.std.specs.Coded.{coded_ℕ, coded_list};
 
+use crate::items::Copied;
 use crate::no_memory::NoMemory;
 use crate::text::Text;
 use std::alloc::Global;
@@ -16,6 +17,7 @@ use std::marker::Model;
 #[derive(Drop)]
 pub struct ByName<V> {
     tree: BTreeMap<Text, V>,
+    alloc: Global,
 }
 
 impl<V> Model for ByName<V> {
@@ -33,6 +35,7 @@ impl<V: Drop> ByName<V> {
     {
         ByName {
             tree: BTreeMap::new(alloc),
+            alloc,
         }
     }
 
@@ -54,6 +57,8 @@ impl<V: Drop> ByName<V> {
     pub fn insert(&mut self, name: Text, value: V) -> Result<(), NoMemory>
         ensures ok { OnOk result (self.new ≡ map.insert self.old name value) }
         ensures err { OnErr result (self.new ≡ self.old) }
+        // Only a new key takes memory.
+        ensures only_new { OnErr result (map.get self.old name ≡ None) }
     {
         self.tree.insert(name, value)?;
         Ok(())
@@ -64,5 +69,23 @@ impl<V: Drop> ByName<V> {
         ensures { self.new ≡ map.remove self.old name.now }
     {
         let _ = self.tree.remove(name);
+    }
+
+    /// Takes the value under a name out, and hands it out.
+    pub fn take(&mut self, name: &Text) -> Option<V>
+        ensures value { result ≡ map.get self.old name.now }
+        ensures rest { self.new ≡ map.remove self.old name.now }
+    {
+        self.tree.remove(name)
+    }
+}
+
+impl<V: Copied + Drop> Copied for ByName<V> {
+    fn copy(&self) -> Result<ByName<V>, NoMemory> {
+        let mut copy = ByName::new(self.alloc);
+        for (name, value) in self.iter() {
+            copy.insert(name.copy()?, value.copy()?)?;
+        }
+        Ok(copy)
     }
 }

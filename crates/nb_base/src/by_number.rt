@@ -1,10 +1,11 @@
 //! A finite map from numbers.
-ghost use Rattle.std.specs.Prelude.{◌≡◌, OnOk, OnErr};
+ghost use Rattle.std.specs.Prelude.{◌≡◌, OnOk, OnErr, None};
 ghost use Rattle.std.specs.Option.{option_copied};
 ghost use Rattle.std.specs.Ordering.{nat_cmp};
 ghost use Rattle.std.specs.FinMap as map;
 ghost use Rattle.std.specs.Coded.{coded_ℕ};
 
+use crate::items::Copied;
 use crate::no_memory::NoMemory;
 use std::alloc::Global;
 use std::collections::BTreeMap;
@@ -15,6 +16,7 @@ use std::marker::Model;
 #[derive(Drop)]
 pub struct ByNumber<V> {
     tree: BTreeMap<u64, V>,
+    alloc: Global,
 }
 
 impl<V> Model for ByNumber<V> {
@@ -32,6 +34,7 @@ impl<V: Drop> ByNumber<V> {
     {
         ByNumber {
             tree: BTreeMap::new(alloc),
+            alloc,
         }
     }
 
@@ -53,6 +56,8 @@ impl<V: Drop> ByNumber<V> {
     pub fn insert(&mut self, number: u64, value: V) -> Result<(), NoMemory>
         ensures ok { OnOk result (self.new ≡ map.insert self.old number value) }
         ensures err { OnErr result (self.new ≡ self.old) }
+        // Only a new key takes memory.
+        ensures only_new { OnErr result (map.get self.old number ≡ None) }
     {
         self.tree.insert(number, value)?;
         Ok(())
@@ -63,5 +68,23 @@ impl<V: Drop> ByNumber<V> {
         ensures { self.new ≡ map.remove self.old number }
     {
         let _ = self.tree.remove(&number);
+    }
+
+    /// Takes the value under a number out, and hands it out.
+    pub fn take(&mut self, number: u64) -> Option<V>
+        ensures value { result ≡ map.get self.old number }
+        ensures rest { self.new ≡ map.remove self.old number }
+    {
+        self.tree.remove(&number)
+    }
+}
+
+impl<V: Copied + Drop> Copied for ByNumber<V> {
+    fn copy(&self) -> Result<ByNumber<V>, NoMemory> {
+        let mut copy = ByNumber::new(self.alloc);
+        for (number, value) in self.iter() {
+            copy.insert(*number, value.copy()?)?;
+        }
+        Ok(copy)
     }
 }

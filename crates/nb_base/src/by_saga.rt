@@ -1,8 +1,9 @@
 //! A finite map from the places of sagas.
-ghost use Rattle.std.specs.Prelude.{◌≡◌, OnOk, OnErr};
+ghost use Rattle.std.specs.Prelude.{◌≡◌, OnOk, OnErr, None};
 ghost use Rattle.std.specs.Option.{option_copied};
 ghost use Rattle.std.specs.FinMap as map;
 
+use crate::items::Copied;
 use crate::no_memory::NoMemory;
 use crate::saga_key::SagaKey;
 use std::alloc::Global;
@@ -14,6 +15,7 @@ use std::marker::Model;
 #[derive(Drop)]
 pub struct BySaga<V> {
     tree: BTreeMap<SagaKey, V>,
+    alloc: Global,
 }
 
 impl<V> Model for BySaga<V> {
@@ -34,6 +36,7 @@ impl<V: Drop> BySaga<V> {
     {
         BySaga {
             tree: BTreeMap::new(alloc),
+            alloc,
         }
     }
 
@@ -55,6 +58,8 @@ impl<V: Drop> BySaga<V> {
     pub fn insert(&mut self, place: SagaKey, value: V) -> Result<(), NoMemory>
         ensures ok { OnOk result (self.new ≡ map.insert self.old place value) }
         ensures err { OnErr result (self.new ≡ self.old) }
+        // Only a new key takes memory.
+        ensures only_new { OnErr result (map.get self.old place ≡ None) }
     {
         self.tree.insert(place, value)?;
         Ok(())
@@ -65,5 +70,23 @@ impl<V: Drop> BySaga<V> {
         ensures { self.new ≡ map.remove self.old place.now }
     {
         let _ = self.tree.remove(place);
+    }
+
+    /// Takes the value at a place out, and hands it out.
+    pub fn take(&mut self, place: &SagaKey) -> Option<V>
+        ensures value { result ≡ map.get self.old place.now }
+        ensures rest { self.new ≡ map.remove self.old place.now }
+    {
+        self.tree.remove(place)
+    }
+}
+
+impl<V: Copied + Drop> Copied for BySaga<V> {
+    fn copy(&self) -> Result<BySaga<V>, NoMemory> {
+        let mut copy = BySaga::new(self.alloc);
+        for (place, value) in self.iter() {
+            copy.insert(place.copy()?, value.copy()?)?;
+        }
+        Ok(copy)
     }
 }

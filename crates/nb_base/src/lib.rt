@@ -10,6 +10,7 @@ mod entry;
 mod envelope;
 mod failed;
 mod gate;
+mod handling;
 mod headers;
 mod host;
 mod items;
@@ -37,6 +38,7 @@ pub use entry::{Count, Counts, Entries, Entry, Op, Ops, OutboxRow, Waiting, Whic
 pub use envelope::{Envelope, Envelopes, MESSAGE_ID};
 pub use failed::Failed;
 pub use gate::{Gate, OpenGate, Point};
+pub use handling::Handling;
 pub use headers::Headers;
 pub use host::{HostClock, ReadSource, WriteSink};
 pub use items::{Copied, Items};

@@ -36,6 +36,20 @@ pub struct Tables {
     pub commits: u64,
 }
 
+impl Copied for Tables {
+    fn copy(&self) -> Result<Tables, NoMemory> {
+        let sagas = self.sagas.copy()?;
+        let rows = self.rows.copy()?;
+        let outbox = self.outbox.copy()?;
+        Ok(Tables {
+            sagas,
+            rows,
+            outbox,
+            commits: self.commits,
+        })
+    }
+}
+
 /// A message in a queue, under the entry's number.
 #[derive(Drop)]
 pub struct Queued {
@@ -64,6 +78,16 @@ pub struct PostState {
     pub entries: ByNumber<Queued>,
     /// From 1 to 2^62, above every entry's number.
     pub next: u64,
+}
+
+impl Copied for PostState {
+    fn copy(&self) -> Result<PostState, NoMemory> {
+        let entries = self.entries.copy()?;
+        Ok(PostState {
+            entries,
+            next: self.next,
+        })
+    }
 }
 
 /// A message that was given up by a policy.

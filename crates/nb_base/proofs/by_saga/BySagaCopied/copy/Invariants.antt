@@ -1,0 +1,8 @@
+use Rattle.std.proofs.Common.{◌≡◌, map as map_list, fold}
+use Rattle.std.specs.FinMap as map
+use Rattle.std.specs.Map.Iter.{deref_pair}
+use Rattle.nb_base.proofs.Copies.{with_one}
+use Rattle.nb_base.proofs.by_saga.BySagaCopied.copy.Given as goal
+
+abbrev pub invariant-loop-place : goal.invariant-loop-place
+invariant-loop-place g l = l.copy ≡ fold with_one map.empty (map_list deref_pair l.yielded)
