@@ -1,7 +1,7 @@
 use crate::{
-    Bytes, Clock, Copied, Envelope, FixedClock, Gate, HostClock, Items, MESSAGE_ID, MemSink,
-    MemSource, Moment, Names, NoMemory, Numbers, OpenGate, Point, ReadSource, ReadStop, Sink,
-    Source, Text, WriteSink, WriteStop, read_all, write_all,
+    ByName, ByNumber, BySaga, Bytes, Clock, Copied, Envelope, FixedClock, Gate, HostClock, Items,
+    MESSAGE_ID, MemSink, MemSource, Moment, Names, NoMemory, Numbers, OpenGate, Point, ReadSource,
+    ReadStop, SagaKey, Sink, Source, Text, Value, WriteSink, WriteStop, read_all, write_all,
 };
 use std::alloc::Global;
 use std::test::Fail;
@@ -161,5 +161,43 @@ fn lists_are_copied(rt: HostRuntime) -> Result<(), Fail> {
     let copy = names.copy()?;
     assert_eq!(rt; copy.len(), 2);
     assert_eq!(rt; copy.at(1).as_str(), "two");
+    Ok(())
+}
+
+#[test]
+fn a_map_by_numbers_is_copied(rt: HostRuntime) -> Result<(), Fail> {
+    let mut map = ByNumber::new(rt.alloc());
+    map.insert(2, 20u64)?;
+    map.insert(1, 10u64)?;
+    let copy = map.copy()?;
+    assert_eq!(rt; copy.get(1), Some(&10));
+    assert_eq!(rt; map.take(2), Some(20));
+    assert!(rt; map.get(2).is_none());
+    Ok(())
+}
+
+#[test]
+fn a_map_by_names_is_copied(rt: HostRuntime) -> Result<(), Fail> {
+    let alloc = rt.alloc();
+    let name = Text::new(alloc, "ann")?;
+    let mut map = ByName::new(alloc);
+    map.insert(name.copy()?, 5u64)?;
+    let copy = map.copy()?;
+    assert_eq!(rt; copy.get(&name), Some(&5));
+    assert_eq!(rt; map.take(&name), Some(5));
+    Ok(())
+}
+
+#[test]
+fn a_map_by_sagas_is_copied(rt: HostRuntime) -> Result<(), Fail> {
+    let alloc = rt.alloc();
+    let saga = Text::new(alloc, "Order")?;
+    let corr = Value::Int(7);
+    let place = SagaKey { saga, corr };
+    let mut map = BySaga::new(alloc);
+    map.insert(place.copy()?, 5u64)?;
+    let copy = map.copy()?;
+    assert_eq!(rt; copy.get(&place), Some(&5));
+    assert_eq!(rt; map.take(&place), Some(5));
     Ok(())
 }
