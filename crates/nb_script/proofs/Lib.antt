@@ -15,3 +15,4 @@ pub mod TextLen
 pub mod LexTurns
 pub mod Digits
 pub mod Parsed
+pub mod Rereading

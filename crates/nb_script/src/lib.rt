@@ -11,12 +11,16 @@ pub mod items;
 pub mod lexeme;
 pub mod lexer;
 pub mod parser;
+pub mod place;
 pub mod script;
 pub mod statements;
 pub mod stmt;
+pub mod tree;
 
 pub use lexer::{Token, TokenKind};
-pub use script::{Script, ScriptFault, ScriptKind, parse, tokens};
+pub use place::Place;
+pub use script::{ScriptFault, ScriptKind, parse, tokens};
+pub use tree::Script;
 
 #[cfg(test)]
 mod tests;

@@ -1,17 +1,18 @@
 //! Scripts: their tokens, and their trees.
-ghost use Rattle.std.specs.Prelude.{◌≡◌, ◌+◌, ◌≤◌, ◌==◌, not, length, slice_get, option_map, take_while, reverse, IfOk, IfErr};
-ghost use Rattle.nb_script.specs.Lexing.{line_of, column_of, lexed, lexemes_of};
+ghost use Rattle.std.specs.Prelude.{◌≡◌, ◌≤◌, length, slice_get, option_map, IfOk, IfErr};
+ghost use Rattle.nb_script.specs.Lexing.{lexed, lexemes_of};
 ghost use Rattle.nb_script.specs.Answer.{IsFirstPlace};
-ghost use Rattle.nb_script.specs.Scripts.{items_of};
+ghost use Rattle.nb_script.specs.Scripts.{items_of, text_of};
 ghost use Rattle.nb_script.specs.Parsing.{StandsAt, IsText, IsScriptText, IsFault, IsLexFault, IsEarly, AreTokens, lex_kind, kind_of};
 
 use crate::content::lexemes;
 use crate::fault::{Fault, Halt};
-use crate::item::Item;
 use crate::lexeme::Lexeme;
-use crate::lexer::{LexFault, Scanned, Tail, Token, scan};
+use crate::lexer::{LexFault, Tail, Token, scan};
 use crate::parser::Parser;
-use nb_base::NoMemory;
+use crate::place::place_of;
+use crate::tree::Script;
+use nb_base::{NoMemory, Text};
 use sqlite_items::Items;
 use std::alloc::Global;
 use thiserror::Error;
@@ -68,57 +69,16 @@ impl From<NoMemory> for ScriptFault {
     }
 }
 
-/// A script, with the place of each token.
-#[derive(Debug, Drop)]
-pub struct Script {
-    items: Items<Item>,
-}
-
-impl Script {
-    /// The items in order.
-    pub fn items(&self) -> &[Item]
-        ensures { result.now ≡ self.now.items }
-    {
-        self.items.as_slice()
-    }
-}
-
-// How many bytes stand behind the last line feed.
-fn last_line_len(before: &[u8]) -> usize
-    ensures value { result ≡ length (take_while (λ b. not (b == 10)) (reverse before.now)) }
-    ensures bound { result ≤ length before.now }
-{
-    before.iter().rev().take_while(|b| **b != b'\n').count()
-}
-
-// The column of what stands behind these bytes.
-fn column(before: &[u8]) -> usize
-    requires { length before.now ≤ 1048576 }
-    ensures value { result ≡ column_of before.now }
-    ensures bound { result ≤ length before.now + 1 }
-{
-    last_line_len(before) + 1
-}
-
-// The line of what stands behind these bytes.
-fn line(before: &[u8]) -> usize
-    requires { length before.now ≤ 1048576 }
-    ensures value { result ≡ line_of before.now }
-    ensures bound { result ≤ length before.now + 1 }
-{
-    before.iter().filter(|b| **b == b'\n').count() + 1
-}
-
 // A fault at a byte of the text.
 fn fault_at(text: &[u8], at: usize, kind: ScriptKind) -> ScriptFault
     requires { length text.now ≤ 1048576 }
     ensures place { StandsAt text.now at result }
     ensures kind { result.kind ≡ kind }
 {
-    let before = if at < text.len() { &text[..at] } else { text };
+    let place = place_of(text, at);
     ScriptFault {
-        line: line(before) as u32,
-        column: column(before) as u32,
+        line: place.line,
+        column: place.column,
         kind,
     }
 }
@@ -137,9 +97,9 @@ fn unreadable(text: &[u8], fault: LexFault, at: u32) -> ScriptFault
     fault_at(text, at as usize, kind)
 }
 
-// Whether the bytes are a text that isn't too long, and its tokens as far as they can be read.
-fn scanned(alloc: Global, text: &[u8]) -> Result<Scanned, ScriptFault>
-    ensures ok { IfOk result (λ s. IsText text.now × (s ≡ lexed text.now)) }
+// The text, where it isn't too long and is UTF-8.
+fn readable(text: &[u8]) -> Result<&str, ScriptFault>
+    ensures ok { IfOk result (λ s. IsText text.now × (s.now ≡ text.now)) }
     ensures err { IfErr result (λ f. IsEarly text.now f) }
 {
     if text.len() > MOST_BYTES {
@@ -149,10 +109,10 @@ fn scanned(alloc: Global, text: &[u8]) -> Result<Scanned, ScriptFault>
             kind: ScriptKind::TooLong,
         });
     }
-    if let Err(error) = std::str::from_utf8(text) {
-        return Err(fault_at(text, error.valid_up_to(), ScriptKind::NotUtf8));
+    match std::str::from_utf8(text) {
+        Ok(text) => Ok(text),
+        Err(error) => Err(fault_at(text, error.valid_up_to(), ScriptKind::NotUtf8)),
     }
-    Ok(scan(alloc, text)?)
 }
 
 /// All tokens of a text, in order, or the first place at which none can be read.
@@ -160,7 +120,8 @@ pub fn tokens(alloc: Global, text: &[u8]) -> Result<Items<Token>, ScriptFault>
     ensures ok { IfOk result (λ ts. AreTokens text.now ts) }
     ensures err { IfErr result (λ f. IsLexFault text.now f) }
 {
-    let scanned = scanned(alloc, text)?;
+    let text = readable(text)?.as_bytes();
+    let scanned = scan(alloc, text)?;
     match scanned.tail {
         Tail::End => Ok(scanned.tokens),
         Tail::Bad(fault, at) => Err(unreadable(text, fault, at)),
@@ -206,9 +167,12 @@ fn stuck(text: &[u8], lexemes: &[Lexeme], tail: Tail, fault: Fault, token: usize
 /// The script for which the text stands, or the first place at which it is none.
 pub fn parse(alloc: Global, text: &[u8]) -> Result<Script, ScriptFault>
     ensures ok { IfOk result (λ s. IsScriptText text.now (items_of s)) }
+    ensures text { IfOk result (λ s. text_of s ≡ text.now) }
     ensures err { IfErr result (λ f. IsFault text.now f) }
 {
-    let scanned = scanned(alloc, text)?;
+    let valid = readable(text)?;
+    let source = Text::new(alloc, valid)?;
+    let scanned = scan(alloc, text)?;
     let lexemes = lexemes(alloc, text, scanned.tokens.as_slice())?;
     let row = lexemes.as_slice();
     let parser = Parser {
@@ -217,10 +181,24 @@ pub fn parse(alloc: Global, text: &[u8]) -> Result<Script, ScriptFault>
     };
     match parser.whole(LEVELS) {
         Ok((items, _)) => match scanned.tail {
-            Tail::End => Ok(Script { items }),
+            Tail::End => Ok(Script::made(items, source)),
             Tail::Bad(fault, at) => Err(unreadable(text, fault, at)),
         },
         Err(Halt::Memory) => Err(NOWHERE),
         Err(Halt::Stopped(fault, token)) => Err(stuck(text, row, scanned.tail, fault, token)),
+    }
+}
+
+impl Script {
+    /// A copy of the script.
+    #[tactic(auto, using(crate::proofs::Rereading::same_read))]
+    pub fn copy(&self, alloc: Global) -> Result<Script, NoMemory>
+        ensures items { IfOk result (λ s. ∥ items_of s ≡ items_of self.now ∥₁) }
+        ensures text { IfOk result (λ s. text_of s ≡ text_of self.now) }
+    {
+        match parse(alloc, self.text().as_bytes()) {
+            Ok(script) => Ok(script),
+            Err(_) => Err(NoMemory),
+        }
     }
 }
