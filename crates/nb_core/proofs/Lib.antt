@@ -14,6 +14,7 @@ pub mod Frees
 pub mod Held
 pub mod Ids
 pub mod Joining
+pub mod Leases
 pub mod Least
 pub mod Looking
 pub mod Naming
@@ -27,5 +28,6 @@ pub mod Serials
 pub mod Sounding
 pub mod Stales
 pub mod Stating
+pub mod Trying
 pub mod Waiting
 pub mod Writing

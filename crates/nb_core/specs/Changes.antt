@@ -8,7 +8,6 @@ use Rattle.nb_base.specs.declared.entry.OutboxRow.{OutboxRow}
 use Rattle.nb_core.specs.declared.state.State.{State}
 use Rattle.nb_core.specs.declared.phase.Phase.{Phase}
 use Rattle.nb_core.specs.declared.phase.Phase.TheVariants.{Idle, Held, Looked, Sending, Leaving, Done}
-use Rattle.nb_core.specs.Standing.{fails}
 
 -- the phases after a change of one; an idle worker isn't there
 unfoldable pub put_phase : ByNumber Phase → ℕ → Phase → ByNumber Phase

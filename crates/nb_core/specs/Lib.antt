@@ -21,6 +21,7 @@ pub mod Pending
 pub mod Placed
 pub mod Ready
 pub mod Refusing
+pub mod Replay
 pub mod RunFacts
 pub mod Sent
 pub mod Serve

@@ -3,14 +3,19 @@
 
 mod answers;
 mod call;
+mod changes;
 mod desk;
 mod event;
+mod free;
 mod history;
 mod laws;
+mod lease;
 mod phase;
 mod phases;
+mod replay;
 mod staleness;
 mod state;
+mod upkeep;
 
 pub use answers::{DeskFault, Look, Settled, Taken};
 pub use call::{Answer, Call};
@@ -24,6 +29,7 @@ pub use laws::{
 };
 pub use phase::Phase;
 pub use phases::{move_after, phase_after, phase_by};
+pub use replay::ReplayFault;
 pub use staleness::{conflict, version};
 pub use state::State;
 
