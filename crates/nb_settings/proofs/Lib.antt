@@ -1,0 +1,5 @@
+mod Arrays
+mod Firsts
+pub mod Least
+mod Tables
+mod SoundTables

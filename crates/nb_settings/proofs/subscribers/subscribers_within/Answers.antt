@@ -1,0 +1,29 @@
+use Rattle.std.proofs.Common.{◌∙◌, refl, ap}
+use Rattle.std.proofs.lemmas.Result.{err_from_is_err_and}
+use Rattle.toml.specs.View.{members_view}
+use Rattle.nb_settings.specs.Faults.{subscriber_faults}
+use Rattle.nb_settings.specs.Values.{subscribers_of}
+use Rattle.nb_settings.proofs.SoundTables.{are_subscribers-made}
+use Rattle.nb_settings.proofs.Tables.{Goes-start, Goes-next, Goes-fails}
+use Rattle.nb_settings.proofs.subscribers.subscribers_within.Goals as goal
+
+pub loop-name-init : goal.loop-name-init
+loop-name-init c = Goes-start _ _ _ _ _ (c.into_iter-name-iterator.ensures.into_iter_gives ∙ c.iter-name-items.ensures.rest) c.new-subscribers.ensures
+
+pub returns-in_err-queues-clause-reads : goal.returns-in_err-queues-clause-reads
+returns-in_err-queues-clause-reads c =
+    let p = err_from_is_err_and c.from_residual.result c.from_residual.ensures.1 in
+    rw (p.1, p.2)
+    (Goes-fails c.in_err-queues.field-0.0 subscriber_faults subscribers_of _ _ _ _ _ (rw c.as_str.ensures.value at c.in_err-queues.ensures)
+    (ap (λ es. subscriber_faults (members_view es)) c.in-Some.ensures.steps) c.loop-name.invariant)
+
+pub loop-name-preserved : goal.loop-name-preserved
+loop-name-preserved c =
+    rw c.in_ok-push.ensures.ok
+    (Goes-next subscriber_faults subscribers_of _ _ _ _ _ _ _ (rw c.as_str.ensures.value at c.in_ok-queues.ensures.0) refl
+    (ap (λ es. subscriber_faults (members_view es)) c.in-Some.ensures.steps)
+    (ap (λ es. subscribers_of (members_view es)) c.in-Some.ensures.steps ∙ rw (c.in_ok-name.ensures, c.as_str-in-loop-name.ensures.value, c.in_ok-queues.ensures.1) refl)
+    c.loop-name.invariant)
+
+pub returns-clause-sound : goal.returns-clause-sound
+returns-clause-sound c = are_subscribers-made _ _ _ c.in-None.ensures.steps.0 c.iter-name-items.ensures.ordered c.loop-name.invariant

@@ -1,0 +1,20 @@
+//! The settings file of an endpoint, read from TOML: the settings, or the first bad key.
+#![tactic(auto)]
+
+mod file;
+mod group;
+mod names;
+mod numbers;
+mod policies;
+mod queues;
+mod refusal;
+mod retries;
+mod routes;
+mod subscribers;
+mod unknown;
+
+pub use file::read_settings;
+pub use refusal::{SettingsFault, SettingsKind, SettingsRefusal};
+
+#[cfg(test)]
+mod tests;
