@@ -7,17 +7,20 @@ use Rattle.nb_base.proofs.Maps.{numbers, at_same, at_other, gone, kept}
 use Rattle.nb_base.specs.Orders.{ByNumber}
 use Rattle.nb_base.specs.declared.tables.PostState.{PostState}
 use Rattle.nb_base.specs.declared.tables.Queued.{Queued}
-use Rattle.nb_cells.specs.Cells.{CellMap, changed, AreAlike}
+use Rattle.nb_cells.specs.Cells.{CellMap, changed, with_change, AreAlike}
+use Rattle.nb_cells.specs.declared.change.Change.{Change}
+use Rattle.nb_cells.specs.declared.change.Change.TheVariants.{Put, Erase}
 use Rattle.nb_envelope.specs.Cells.{◌>>=◌}
 use Rattle.nb_envelope.specs.Spelling.{spelled_u64}
 use Rattle.nb_queue.specs.Spelled.{spelled_entry, spelled_next, IsNumber}
+use Rattle.nb_queue.specs.Applied.{Leads}
 use Rattle.nb_queue.specs.Maps.{number_of, entry_bytes, next_bytes, cells_of}
-use Rattle.nb_queue.specs.Stands.{with_entry, without_entry}
+use Rattle.nb_queue.specs.Stands.{with_entry, without_entry, in_place}
 use Rattle.nb_queue.specs.Changes.{change_of_entry, change_of_next, change_of_removal}
 use Rattle.nb_queue.proofs.FormatLaws.{number_of-spelled, spelled-number_of}
 
 -- maps that are alike are equal
-pub same_cells : (m n : CellMap) → AreAlike m n → m ≡ n
+same_cells : (m n : CellMap) → AreAlike m n → m ≡ n
 same_cells m n alike = λ i space key. alike space key i
 
 -- the bytes under a number that the key may spell
@@ -103,3 +106,24 @@ changed-remove p number is = same_cells _ _ (λ space key.
           subst (λ s. changed (change_of_removal number ∷ []) (cells_of p) s key ≡ cells_of (without_entry p number) s key) (sym two) (sym (removed_bytes p.entries number key is))
       | inr (inr other) ↦ elsewhere_removed (space == 1) (space == 2) (bytes_eq key (spelled_u64 number)) _ _ _ _ other.0 other.1
     ])
+
+-- the cells of the post with another entry under a number
+pub changed-in_place : (p : PostState) (number : ℕ) (e : Queued) → IsNumber number → changed (change_of_entry number e ∷ []) (cells_of p) ≡ cells_of (in_place p number e)
+changed-in_place p number e is = same_cells _ _ (λ space key.
+    elim (by_space space) [
+      | inl one ↦ subst (λ s. changed (change_of_entry number e ∷ []) (cells_of p) s key ≡ cells_of (in_place p number e) s key) (sym one) refl
+      | inr (inl two) ↦ subst (λ s. changed (change_of_entry number e ∷ []) (cells_of p) s key ≡ cells_of (in_place p number e) s key) (sym two) (sym (put_bytes p.entries number e key is))
+      | inr (inr other) ↦ elsewhere_removed (space == 1) (space == 2) (bytes_eq key (spelled_u64 number)) _ _ _ _ other.0 other.1
+    ])
+
+-- changes make the same of two maps at a place where they have the same
+changed_alike : (cs : List Change) (m n : CellMap) (space : ℕ) (key : List ℕ) → m space key ≡ n space key → changed cs m space key ≡ changed cs n space key
+changed_alike [] m n space key same = same
+changed_alike (Put s k bytes ∷ cs) m n space key same =
+    changed_alike cs (with_change m (Put s k bytes)) (with_change n (Put s k bytes)) space key (ap (cond (space == s && bytes_eq key k) (Some bytes)) same)
+changed_alike (Erase s k ∷ cs) m n space key same =
+    changed_alike cs (with_change m (Erase s k)) (with_change n (Erase s k)) space key (ap (cond (space == s && bytes_eq key k) None) same)
+
+-- what is said of the cells of a post is said of each map that has them
+pub leads_from : (cs : List Change) (p q : PostState) → changed cs (cells_of p) ≡ cells_of q → Leads cs p q
+leads_from cs p q law m has space key is = changed_alike cs m (cells_of p) space key (has space key is) ∙ ap (λ (f : CellMap). f space key) law

@@ -1,8 +1,10 @@
 pub mod FormatLaws
 pub mod CellLaws
 pub mod PostLaws
+pub mod DuesLaws
+pub mod AppliedLaws
 pub mod OpeningLaws
 pub mod OpenedLaws
 pub mod DamageLaws
 pub mod ListedLaws
-pub mod CopyLaws
+pub mod FoldLaws

@@ -9,11 +9,11 @@ use Rattle.nb_base.specs.declared.tables.Queued.{Queued}
 use Rattle.nb_cells.specs.Cells.{CellMap, IsSpace, Scans}
 use Rattle.nb_cells.specs.declared.cell.Cell.{Cell}
 use Rattle.nb_envelope.specs.Spelling.{spelled_u64}
-use Rattle.nb_queue.specs.Maps.{number_of, entry_bytes, next_bytes, cells_of}
-use Rattle.nb_queue.specs.Opening.{TellsNext, AreLoaded, AreScans, IsOpened, StaysInSpaces}
+use Rattle.nb_queue.specs.Maps.{number_of, entry_bytes, next_bytes, cells_of, HasCells}
+use Rattle.nb_queue.specs.Opening.{TellsNext, AreLoaded, AreScans, IsOpened}
 use Rattle.nb_queue.specs.Spelled.{spelled_entry, spelled_next}
 use Rattle.nb_queue.specs.Stands.{IsPost}
-use Rattle.nb_queue.proofs.CellLaws.{under, same_cells}
+use Rattle.nb_queue.proofs.CellLaws.{under}
 use Rattle.nb_queue.proofs.FormatLaws.{number_of-spelled, spelled-number_of}
 use Rattle.nb_queue.proofs.OpeningLaws.{nowhere}
 
@@ -125,14 +125,14 @@ no_space p space key one two = go (space == 1) (space == 2) refl refl
     go false true e f = absurd (two (eqb-true space 2 f))
     go false false e f = rw (e, f) refl
 
-pub opened_cells : (m : CellMap) (p : PostState) (a b c d : List Cell) → AreScans m a b c d → IsOpened p a b c d → StaysInSpaces m → m ≡ cells_of p
-opened_cells m p a b c d scans opened stays = same_cells m (cells_of p) (λ space key.
+pub opened_cells : (m : CellMap) (p : PostState) (a b c d : List Cell) → AreScans m a b c d → IsOpened p a b c d → HasCells m p
+opened_cells m p a b c d scans opened space key is =
     elim (by_space space) [
       | inl one ↦ subst (λ s. m s key ≡ cells_of p s key) (sym one) (next_told m p.next a scans.first opened.tells key)
       | inr (inl two) ↦ subst (λ s. m s key ≡ cells_of p s key) (sym two) (entries_told m p.next p.entries b ((post_opened p a b c d opened).sound.to) scans.second opened.loaded key)
-      | inr (inr other) ↦ none_if (m space key) (λ bytes is.
-          elim (three_or_four space (stays space key bytes is) other.0 other.1) [
-            | inl three ↦ absent (m 3 key) bytes (none_in m 3 c scans.third_is opened.none_third key) (subst (λ s. m s key ≡ Some bytes) three is)
-            | inr four ↦ absent (m 4 key) bytes (none_in m 4 d scans.fourth_is opened.none_fourth key) (subst (λ s. m s key ≡ Some bytes) four is)
-          ]) ∙ sym (no_space p space key other.0 other.1)
-    ])
+      | inr (inr other) ↦
+          elim (three_or_four space is other.0 other.1) [
+            | inl three ↦ subst (λ s. m s key ≡ None) (sym three) (none_in m 3 c scans.third_is opened.none_third key) ∙ sym (no_space p space key other.0 other.1)
+            | inr four ↦ subst (λ s. m s key ≡ None) (sym four) (none_in m 4 d scans.fourth_is opened.none_fourth key) ∙ sym (no_space p space key other.0 other.1)
+          ]
+    ]

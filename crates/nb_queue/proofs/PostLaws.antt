@@ -1,6 +1,7 @@
 -- What changes of the post keep.
-use Rattle.std.specs.Prelude.{◌≡◌, ℕ, ◌+◌, ◌<◌, ◌^◌, List, [], ◌∷◌, Option, Some, None, Ok, refl}
-use Rattle.std.proofs.Common.{◌∙◌, ◌⊎◌, inl, inr, sym, ap, subst, arith}
+use Rattle.std.specs.Prelude.{◌≡◌, ◌≢◌, ℕ, ◌+◌, ◌-◌, ◌<◌, ◌≤◌, ◌^◌, List, [], ◌∷◌, Option, Some, None, refl}
+use Rattle.std.proofs.Common.{◌∙◌, inl, inr, sym, ap, subst, arith}
+use Rattle.std.specs.Option.{option_map_or}
 use Rattle.std.specs.FinMap as map
 use Rattle.std.specs.Cmp.{nat_cmp_total}
 use Rattle.nb_base.proofs.Maps.{numbers, same_or_other, at_same, at_other, gone, kept}
@@ -9,16 +10,16 @@ use Rattle.nb_base.specs.Sound.{IsSoundEntry}
 use Rattle.nb_base.specs.declared.tables.PostState.{PostState}
 use Rattle.nb_base.specs.declared.tables.Queued.{Queued}
 use Rattle.nb_queue.specs.Spelled.{IsEntry}
-use Rattle.nb_queue.specs.Stands.{IsPost, with_entry, without_entry, Leaves}
-use Rattle.nb_base.specs.Messages.{Message}
-use Rattle.nb_cells.specs.Cells.{CellMap, AreAlike, AreDistinct, changed}
+use Rattle.nb_queue.specs.Stands.{IsPost, with_entry, without_entry, in_place, stands_now, released}
+use Rattle.nb_queue.specs.Applied.{Leads}
+use Rattle.nb_cells.specs.Cells.{AreDistinct, changed}
 use Rattle.nb_cells.specs.declared.change.Change.{Change}
 use Rattle.nb_queue.specs.Changes.{change_of_entry, change_of_next, change_of_removal}
 use Rattle.nb_queue.specs.Maps.{cells_of}
-use Rattle.nb_queue.proofs.CellLaws.{changed-put, changed-remove}
+use Rattle.nb_queue.proofs.CellLaws.{changed-put, changed-remove, changed-in_place, leads_from}
 use Rattle.std.specs.List.{IsDistinct}
 
-inside : (a b : Queued) → Some a ≡ Some b → a ≡ b
+pub inside : (a b : Queued) → Some a ≡ Some b → a ≡ b
 inside a b e = cc
 
 none_if : (o : Option Queued) → ((e : Queued) → o ≡ Some e → ⊥) → o ≡ None
@@ -83,32 +84,78 @@ pub distinct_put : (number : ℕ) (e : Queued) (next : ℕ) → AreDistinct (cha
 unfolding IsDistinct
 distinct_put number e next = ((refl, tt), (tt, tt))
 
+pub distinct_entry : (number : ℕ) (e : Queued) → AreDistinct (change_of_entry number e ∷ [])
+unfolding IsDistinct
+distinct_entry number e = (tt, tt)
+
 pub distinct_removal : (number : ℕ) → AreDistinct (change_of_removal number ∷ [])
 unfolding IsDistinct
 distinct_removal number = (tt, tt)
 
-pub made_equal : (queue q : List ℕ) (due : Option ℕ) (envelope m : Message) → queue ≡ q → envelope ≡ m → (let made : Queued = record { queue = queue; due = due; envelope = envelope } in made) ≡ record { queue = q; due = due; envelope = m }
-made_equal queue q due envelope m x y = λ i. record { queue = x i; due = due; envelope = y i }
+-- what its changes make of the cells of a post
+pub leads_put : (p : PostState) (e : Queued) (cs : List Change) → IsPost p → p.next < 2 ^ 62 → cs ≡ change_of_entry p.next e ∷ change_of_next (p.next + 1) ∷ [] → Leads cs p (with_entry p e)
+leads_put p e cs post room is = let from = post.sound.from in leads_from cs p (with_entry p e) (ap (λ x. changed x (cells_of p)) is ∙ changed-put p e (omega arith) (omega arith))
 
--- the post with other entries
-pub with_entries : (s : PostState) (entries : ByNumber Queued) → entries ≡ s.entries → (let p : PostState = record { entries = entries; next = s.next } in p) ≡ s
-with_entries s entries is = λ i. record { entries = is i; next = s.next }
+pub leads_removal : (p : PostState) (number : ℕ) (cs : List Change) → number < 2 ^ 64 → cs ≡ change_of_removal number ∷ [] → Leads cs p (without_entry p number)
+leads_removal p number cs fits is = leads_from cs p (without_entry p number) (ap (λ x. changed x (cells_of p)) is ∙ changed-remove p number fits)
 
-pub changed_by_put : (s : PostState) (e : Queued) (cs : List Change) → IsPost s → s.next < 2 ^ 62 → cs ≡ change_of_entry s.next e ∷ change_of_next (s.next + 1) ∷ [] → changed cs (cells_of s) ≡ cells_of (with_entry s e)
-changed_by_put s e cs post room is = let from = post.sound.from in ap (λ x. changed x (cells_of s)) is ∙ changed-put s e (omega arith) (omega arith)
+-- the post after a release, by the entry that was there
+pub released-there : (p : PostState) (number : ℕ) (e r : Queued) → map.get p.entries number ≡ Some e → r ≡ stands_now e → in_place p number r ≡ released p number
+released-there p number e r there is = ap (in_place p number) is ∙ sym (ap (λ o. option_map_or (λ x. in_place p number (stands_now x)) o p) there)
 
-pub changed_by_removal : (s : PostState) (number : ℕ) (cs : List Change) → number < 2 ^ 64 → cs ≡ change_of_removal number ∷ [] → changed cs (cells_of s) ≡ cells_of (without_entry s number)
-changed_by_removal s number cs fits is = ap (λ x. changed x (cells_of s)) is ∙ changed-remove s number fits
+pub leads_release : (p : PostState) (number : ℕ) (e r : Queued) (cs : List Change) → number < 2 ^ 64 → map.get p.entries number ≡ Some e → r ≡ stands_now e → cs ≡ change_of_entry number r ∷ [] → Leads cs p (released p number)
+leads_release p number e r cs fits there is changes =
+    leads_from cs p (released p number) (ap (λ x. changed x (cells_of p)) changes ∙ changed-in_place p number r fits ∙ ap cells_of (released-there p number e r there is))
 
--- what a store that was told leaves, by what its apply says
-pub leaves_all : (now images : CellMap → Type 0) (firm : Type 0) (images_before : CellMap → Type 0) (before after made : CellMap) (n : ℕ) → made ≡ after → now made → firm → ((n : CellMap) → images n → AreAlike n made)
-    → Leaves {A = ℕ} firm now images_before images before after (Ok n)
-leaves_all now images firm images_before before after made n is told stays only = (subst now is told, stays, λ m image. subst (AreAlike m) is (only m image))
+-- the queue of an entry that was there has a name
+pub named_release : (p : PostState) (number : ℕ) (e r : Queued) → IsPost p → map.get p.entries number ≡ Some e → r ≡ stands_now e → r.queue ≢ []
+named_release p number e r post there is = subst (λ (x : Queued). x.queue ≢ []) (sym is) ((post.sound.entries number e there).queue)
 
-pub leaves_all_unit : (now images : CellMap → Type 0) (firm : Type 0) (images_before : CellMap → Type 0) (before after made : CellMap) → made ≡ after → now made → firm → ((n : CellMap) → images n → AreAlike n made)
-    → now after × firm × ((n : CellMap) → images n → AreAlike n after)
-leaves_all_unit now images firm images_before before after made is told stays only = (subst now is told, stays, λ m image. subst (AreAlike m) is (only m image))
+pub is_in_place : (p : PostState) (number : ℕ) (e : Queued) → IsPost p → map.get p.entries number ≡ Some e → IsPost (in_place p number (stands_now e))
+is_in_place p number e post there = record {
+  sound = record {
+    from = post.sound.from;
+    to = post.sound.to;
+    entries = λ n x has.
+        elim (same_or_other numbers n number) [
+          | inl same ↦
+              let was = post.sound.entries number e there in
+              subst (λ k. IsSoundEntry p.next k x) (sym same) (subst (IsSoundEntry p.next number) (this n x has same) (record { from = was.from; below = was.below; queue = was.queue; id = was.id }))
+          | inr other ↦ post.sound.entries n x (sym (at_other numbers p.entries number (stands_now e) n other) ∙ has)
+        ];
+  };
+  spelled = λ n x has.
+      elim (same_or_other numbers n number) [
+        | inl same ↦
+            let was = post.spelled number e there in
+            subst IsEntry (this n x has same) (record { queue = was.queue; named = was.named; due = tt; envelope = was.envelope })
+        | inr other ↦ post.spelled n x (sym (at_other numbers p.entries number (stands_now e) n other) ∙ has)
+      ];
+}
+  where
+    this : (n : ℕ) (x : Queued) → map.get (map.insert p.entries number (stands_now e)) n ≡ Some x → n ≡ number → stands_now e ≡ x
+    this n x has same = inside (stands_now e) x (sym (at_same numbers p.entries number (stands_now e)) ∙ subst (λ k. map.get (map.insert p.entries number (stands_now e)) k ≡ Some x) same has)
 
-pub leaves_either : (images images_in images_before : CellMap → Type 0) (after made : CellMap) → made ≡ after → ((n : CellMap) → images_in n → images_before n) → ((n : CellMap) → images n → images_in n ⊎ AreAlike n made)
-    → (n : CellMap) → images n → images_before n ⊎ AreAlike n after
-leaves_either images images_in images_before after made is was only n image = elim (only n image) [ inl before ↦ inl (was n before) | inr all ↦ inr (subst (AreAlike n) is all) ]
+-- the entry with the greatest number was taken out
+pub is_dropped : (p : PostState) (number : ℕ) → IsPost p → 1 ≤ number → p.next ≡ number + 1 → IsPost (record { entries = map.remove p.entries number; next = number })
+is_dropped p number post from last = record {
+  sound = record {
+    from = from;
+    to = let to = post.sound.to in omega arith;
+    entries = λ n x has.
+        let was = post.sound.entries n x (was_there p.entries number n x has) in
+        let lt = was.below in
+        elim (same_or_other numbers n number) [
+          | inl same ↦ absurd (absent _ x (gone numbers p.entries number) (subst (λ k. map.get (map.remove p.entries number) k ≡ Some x) same has))
+          | inr other ↦ record { from = was.from; below = omega arith; queue = was.queue; id = was.id }
+        ];
+  };
+  spelled = λ n x has. post.spelled n x (was_there p.entries number n x has);
+}
+
+-- an entry that was added and dropped again
+pub dropped_again : (p q : PostState) (e : Queued) (last : ℕ) → IsPost p → q ≡ with_entry p e → last ≡ q.next - 1 → (let r : PostState = record { entries = map.remove q.entries last; next = last } in r) ≡ p
+dropped_again p q e last post added is =
+    let at : last ≡ p.next = is ∙ ap (λ (x : PostState). x.next - 1) added ∙ omega arith in
+    let back : map.remove q.entries last ≡ p.entries = ap (map.remove q.entries) at ∙ ap (λ (x : PostState). map.remove x.entries p.next) added ∙ back_again p e post in
+    λ i. record { entries = back i; next = at i }

@@ -2,6 +2,8 @@ pub mod Spelled
 pub mod Read
 pub mod Maps
 pub mod Stands
+pub mod Applied
+pub mod Dues
 pub mod Changes
 pub mod Opening
 pub mod Damage

@@ -4,7 +4,7 @@ use Rattle.std.specs.FinMap as map
 use Rattle.nb_base.specs.Orders.{ByNumber}
 use Rattle.nb_base.specs.declared.tables.PostState.{PostState}
 use Rattle.nb_base.specs.declared.tables.Queued.{Queued}
-use Rattle.nb_cells.specs.Cells.{CellMap}
+use Rattle.nb_cells.specs.Cells.{CellMap, IsSpace}
 use Rattle.nb_envelope.specs.Cells.{◌>>=◌, u64_in, whole}
 use Rattle.nb_envelope.specs.Spelling.{spelled_u64}
 use Rattle.nb_queue.specs.Spelled.{spelled_entry, spelled_next, IsEntry}
@@ -29,3 +29,13 @@ cells_of p space key = if space == 1 then next_bytes p.next key else (if space =
 -- every entry has a spelling
 abbrev pub AreSpelled : ByNumber Queued → Type 0
 AreSpelled entries = (number : ℕ) (e : Queued) → map.get entries number ≡ Some e → IsEntry e
+
+-- the map has the cells of the post
+abbrev pub HasCells : CellMap → PostState → Type 0
+HasCells m p = (space : ℕ) (key : List ℕ) → IsSpace space → m space key ≡ cells_of p space key
+
+-- the map that the store tells has the cells of the post
+pub record Shows {C : Type 0} (now : C → CellMap → Type 0) (store : C) (p : PostState) : Type 0 where
+  pub map : CellMap
+  pub told : now store map
+  pub cells : HasCells map p

@@ -7,7 +7,7 @@ use Rattle.std.specs.Cmp.Lexicographic.{slice_cmp}
 use Rattle.nb_base.specs.Orders.{ByNumber}
 use Rattle.nb_base.specs.Sound.{limit}
 use Rattle.nb_base.specs.declared.tables.Queued.{Queued}
-use Rattle.nb_cells.specs.Cells.{CellMap, IsSpace, Scans}
+use Rattle.nb_cells.specs.Cells.{CellMap, Scans}
 use Rattle.nb_cells.specs.declared.cell.Cell.{Cell}
 use Rattle.nb_base.specs.declared.tables.PostState.{PostState}
 use Rattle.nb_envelope.specs.Spelling.{spelled_u64}
@@ -82,10 +82,6 @@ IsRefusal next entries third fourth f =
     IsRefusedFor IsSomeNext 1 next f
     ⊎ ((n : ℕ) × TellsNext next n × (IsRefusedFor (IsSomeEntry n) 2 entries f
     ⊎ ((es : ByNumber Queued) × AreLoaded n es entries × (IsRefusedFor (λ c. ⊥) 3 third f ⊎ ((third ≡ []) × IsRefusedFor (λ c. ⊥) 4 fourth f)))))
-
--- no cell lies outside the four spaces
-abbrev pub StaysInSpaces : CellMap → Type 0
-StaysInSpaces m = (space : ℕ) (key bytes : List ℕ) → m space key ≡ Some bytes → IsSpace space
 
 -- cells are refused for damage or for want of memory
 abbrev pub IsOfCells : PostFault → Type 0

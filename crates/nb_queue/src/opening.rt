@@ -1,5 +1,6 @@
 //! The cells of a store at its opening.
 ghost use Rattle.std.specs.Prelude.{◌≡◌, ◌⊎◌, [], IfOk, OnOk, IfErr, MatchOption};
+ghost use Rattle.nb_base.specs.Sound.{IsSoundPost};
 ghost use Rattle.nb_cells.specs.Cells.{CellMap};
 ghost use Rattle.nb_cells.specs.Faults.{IsCounted};
 ghost use Rattle.nb_queue.specs.Opening.{IsNextCell, IsCellOf, IsSomeNext, IsSomeEntry, TellsNext, AreLoaded, IsRefusedFor, IsRefusal, IsOpened, IsOfCells, AreScans, Ascend};
@@ -7,6 +8,7 @@ ghost use Rattle.nb_queue.specs.Opening.{IsNextCell, IsCellOf, IsSomeNext, IsSom
 use crate::changes::{ENTRIES, NEXT};
 use crate::fault::PostFault;
 use crate::post::LIMIT;
+use crate::queues::Queues;
 use crate::read::{read_entry, read_next, read_number};
 use nb_base::{ByNumber, Copied, NoMemory, PostState, Queued};
 use nb_cells::{Cell, CellFault, CellList, Cells};
@@ -147,8 +149,9 @@ fn load_none(space: u8, cells: &CellList) -> Result<(), PostFault>
 }
 
 /// The post of which these are the cells.
-pub(crate) fn load(alloc: Global, found: &Found) -> Result<PostState, PostFault>
+pub(crate) fn load(alloc: Global, found: &Found) -> Result<Queues, PostFault>
     ensures ok { IfOk result (λ p. IsOpened p found.now.next found.now.entries found.now.third found.now.fourth) }
+    ensures sound { IfOk result IsSoundPost }
     ensures kinds { IfErr result IsOfCells }
     ensures err { Ascend found.now.next → IfErr result (IsRefusal found.now.next found.now.entries found.now.third found.now.fourth) }
 {
@@ -160,5 +163,5 @@ pub(crate) fn load(alloc: Global, found: &Found) -> Result<PostState, PostFault>
     if let Err(fourth) = load_none(4, &found.fourth) {
         return Err(fourth);
     }
-    Ok(PostState { entries, next })
+    Ok(Queues::new(alloc, PostState { entries, next })?)
 }

@@ -3,7 +3,7 @@ ghost use Rattle.std.specs.Prelude.{◌≡◌, ◌≢◌, [], IfOk, OnOk};
 ghost use Rattle.nb_envelope.specs.Spelling.{spelled_u64};
 ghost use Rattle.nb_queue.specs.Spelled.{spelled_entry, spelled_next, IsEntry};
 
-use nb_base::{Bytes, Envelope, Moment, NoMemory, Text};
+use nb_base::{Bytes, NoMemory, Queued};
 use nb_envelope::wire::{put_due, put_envelope, put_text, put_u64};
 use std::alloc::Global;
 
@@ -27,20 +27,15 @@ pub(crate) fn next_bytes(alloc: Global, next: u64) -> Result<Bytes, NoMemory>
 }
 
 /// The bytes of an entry.
-pub(crate) fn entry_bytes(
-    alloc: Global,
-    queue: &Text,
-    due: Option<Moment>,
-    envelope: &Envelope,
-) -> Result<Bytes, NoMemory>
-    requires { queue.now ≢ [] }
-    ensures bytes { IfOk result (λ b. b ≡ spelled_entry (record { queue = queue.now; due = due; envelope = envelope.now })) }
-    ensures fits { OnOk result (IsEntry (record { queue = queue.now; due = due; envelope = envelope.now })) }
+pub(crate) fn entry_bytes(alloc: Global, entry: &Queued) -> Result<Bytes, NoMemory>
+    requires { entry.now.queue ≢ [] }
+    ensures bytes { IfOk result (λ b. b ≡ spelled_entry entry.now) }
+    ensures fits { OnOk result (IsEntry entry.now) }
 {
     let mut out = Vec::new(alloc);
     out.push(1)?;
-    put_text(&mut out, queue.as_str())?;
-    put_due(&mut out, due)?;
-    put_envelope(&mut out, envelope)?;
+    put_text(&mut out, entry.queue.as_str())?;
+    put_due(&mut out, entry.due)?;
+    put_envelope(&mut out, &entry.envelope)?;
     Bytes::of_vec(out)
 }

@@ -6,14 +6,14 @@ use Rattle.std.specs.Option.{option_to_list}
 use Rattle.std.specs.Map.Iter.{deref_pair}
 use Rattle.std.proofs.lemmas.Map.Iter.{iter_end}
 use Rattle.nb_queue.specs.Listed.{standing_in}
-use Rattle.nb_queue.proofs.ListedLaws.{filter_map-standing}
+use Rattle.nb_queue.proofs.ListedLaws.{one_listed}
 use Rattle.nb_queue.proofs.listed.standing.Goals as goal
 
 pub loop-number-preserved : goal.loop-number-preserved
 loop-number-preserved c =
     c.in_ok-add_standing.ensures
     ∙ ap (λ list. list ++ option_to_list (standing_in c.args.queue.now (c.in-Some.number.now, c.in-Some.entry.now))) c.loop-number.invariant
-    ∙ sym (filter_map-standing c.args.queue.now (map_list deref_pair c.loop-number.yielded) (c.in-Some.number.now, c.in-Some.entry.now))
+    ∙ sym (one_listed (standing_in c.args.queue.now) (map_list deref_pair c.loop-number.yielded) (c.in-Some.number.now, c.in-Some.entry.now))
     ∙ ap (filter_map (standing_in c.args.queue.now)) (sym (map-append deref_pair c.loop-number.yielded _))
 
 pub returns : goal.returns
