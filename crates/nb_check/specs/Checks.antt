@@ -10,6 +10,7 @@ use Rattle.nb_check.specs.Declarations.{messages, names_of, sagas}
 use Rattle.nb_check.specs.Keys.{read_set}
 use Rattle.nb_check.specs.Meets.{met_numbers}
 use Rattle.nb_check.specs.Rules.{script_faults}
+use Rattle.nb_check.specs.Sends.{sends}
 use Rattle.nb_check.specs.declared.breach.Breach.{Breach}
 use Rattle.nb_check.specs.declared.refused.Refused.{Refused}
 use Rattle.nb_check.specs.declared.refused.Refused.TheVariants.{Broken, NoMemory}
@@ -17,11 +18,12 @@ use Rattle.nb_check.specs.declared.types.MessageType.{MessageType}
 use Rattle.nb_check.specs.declared.types.SagaType.{SagaType}
 
 -- a script that breaks no rule, with what it declares
-pub record IsChecked (items : List ItemTerm) (messages_of_it : List MessageType) (names_of_it : List (List ℕ)) (sagas_of_it : List SagaType) : Type 0 where
+pub record IsChecked (items : List ItemTerm) (messages_of_it : List MessageType) (names_of_it : List (List ℕ)) (sagas_of_it : List SagaType) (sends_of_it : List (List ℕ)) : Type 0 where
   pub rules : script_faults items ≡ []
   pub types : messages_of_it ≡ messages items
   pub names : names_of_it ≡ names_of messages_of_it
   pub kinds : sagas_of_it ≡ sagas items
+  pub sent : sends_of_it ≡ sends items
 
 -- the names of the declared messages
 abbrev pub declared_names : List ItemTerm → List (List ℕ)

@@ -8,4 +8,5 @@ pub mod Keys
 pub mod Kinds
 pub mod Meets
 pub mod Rules
+pub mod Sends
 pub mod Statements

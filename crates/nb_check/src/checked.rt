@@ -6,6 +6,7 @@ ghost use Rattle.nb_check.specs.Declarations.{messages, sagas};
 ghost use Rattle.nb_check.specs.Fits.{fits, lift, saga_named};
 ghost use Rattle.nb_check.specs.Keys.{same_key};
 ghost use Rattle.nb_check.specs.Rules.{script_faults};
+ghost use Rattle.nb_check.specs.Sends.{sends};
 ghost use Rattle.std.specs.List.{IsDistinct};
 ghost use Rattle.nb_check.specs.Checks.{declared_names, body_fields, blocks_met, keys_read, Refuses, IsUnbroken};
 
@@ -16,6 +17,7 @@ use crate::key_set::read_set;
 use crate::met::{Blocks, met_numbers};
 use crate::refused::Refused;
 use crate::rules::script_faults;
+use crate::sends::sends;
 use crate::types::{MessageType, SagaType, messages, names_of, sagas};
 use nb_base::{Envelope, Fields, Items, Keys, Names, NoMemory, SagaRow, Text};
 use nb_script::item::Item;
@@ -30,6 +32,7 @@ pub struct Checked {
     types: Items<MessageType>,
     names: Names,
     kinds: Items<SagaType>,
+    sends: Names,
 }
 
 impl Model for Checked {
@@ -46,7 +49,7 @@ impl Model for Checked {
 
     ghost view = { λ c. c.items };
 
-    ghost invariant = { λ c. IsChecked (script c.items) c.types c.names c.kinds };
+    ghost invariant = { λ c. IsChecked (script c.items) c.types c.names c.kinds c.sends };
 }
 
 /// Ok exactly where the script breaks no rule.
@@ -72,11 +75,13 @@ impl Checked {
         unbroken(alloc, types.as_slice(), items.as_slice())?;
         let names = names_of(alloc, types.as_slice())?;
         let kinds = sagas(alloc, items.as_slice())?;
+        let sends = sends(alloc, items.as_slice())?;
         Ok(Checked {
             items,
             types,
             names,
             kinds,
+            sends,
         })
     }
 
@@ -93,6 +98,14 @@ impl Checked {
         ensures { result.now ≡ declared_names (script self.now) }
     {
         &self.names
+    }
+
+    /// The types of the messages that the script sends to the queues of their routes, one for each `send` in the text, in
+    /// order.
+    pub fn sends(&self) -> &Names
+        ensures { result.now ≡ sends (script self.now) }
+    {
+        &self.sends
     }
 
     /// Whether a saga of this name is declared.

@@ -14,6 +14,7 @@ mod known;
 mod met;
 mod refused;
 mod rules;
+mod sends;
 mod sight;
 mod types;
 
