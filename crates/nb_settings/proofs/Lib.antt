@@ -1,5 +1,6 @@
 mod Arrays
 mod Firsts
+mod LeastLaws
 pub mod Least
 mod Tables
 mod SoundTables

@@ -1,6 +1,6 @@
 -- Keys that mean nothing.
-use Rattle.std.specs.Prelude.{ℕ, List, [], ◌∷◌, ◌++◌, Bool, bytes_eq, if◌then◌else◌, Option, Some, None, codes}
-use Rattle.std.specs.List.{list_any}
+use Rattle.std.specs.Prelude.{◌≡◌, ℕ, List, [], ◌∷◌, ◌++◌, Bool, true, false, MatchOption, bytes_eq, if◌then◌else◌, Option, Some, None, codes}
+use Rattle.std.specs.List.{AllByRecursion, list_any}
 use Rattle.toml.specs.Data.{Data, Members, no_members, member, get}
 use Rattle.nb_base.specs.SettingsRules.{is_before}
 use Rattle.nb_settings.specs.Values.{members_of}
@@ -40,3 +40,12 @@ least_with best (key ∷ keys) = least_with (Some (lesser best key)) keys
 
 abbrev pub least : List (List ℕ) → Option (List ℕ)
 least keys = least_with None keys
+
+-- the key is one of the keys, and none of them comes before it
+pub record IsLeastOf (keys : List (List ℕ)) (key : List ℕ) : Type 0 where
+  pub among : list_any (bytes_eq key) keys ≡ true
+  pub first : AllByRecursion (λ other. is_before other key ≡ false) keys
+
+-- the least of some keys; of none there is none
+abbrev pub FindsLeast : Type 0
+FindsLeast = (keys : List (List ℕ)) → MatchOption (least keys) (keys ≡ []) (IsLeastOf keys)

@@ -3,6 +3,7 @@
 
 mod file;
 mod group;
+mod laws;
 mod names;
 mod numbers;
 mod policies;
@@ -14,6 +15,7 @@ mod subscribers;
 mod unknown;
 
 pub use file::read_settings;
+pub use laws::law_least;
 pub use refusal::{SettingsFault, SettingsKind, SettingsRefusal};
 
 #[cfg(test)]
