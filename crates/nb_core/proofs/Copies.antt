@@ -130,6 +130,7 @@ pub record Ranges (s : Settings) : Type 0 where
   pub endpoint : is_endpoint s.endpoint ≡ true
   pub error : is_queue s.error ≡ true
   pub apart : not (bytes_eq s.error s.endpoint) ≡ true
+  pub immediate : nat_le s.immediate 1000 ≡ true
   pub delayed : nat_le s.delayed 1000 ≡ true
   pub routes : are_routes s.routes ≡ true
   pub subscribers : are_subscribers s.subscribers ≡ true
@@ -146,7 +147,7 @@ ranges s =
     let g = both_true _ _ f.0 in
     let i = both_true _ _ g.0 in
     let j = both_true _ _ i.0 in
-    record { endpoint = j.0; error = j.1; apart = i.1; delayed = f.1; routes = c.1; subscribers = b.1 }
+    record { endpoint = j.0; error = j.1; apart = i.1; immediate = g.1; delayed = f.1; routes = c.1; subscribers = b.1 }
 
 -- the error queue isn't the own one
 pub error_apart : (s : Settings) → s.error ≢ s.endpoint
@@ -154,3 +155,6 @@ error_apart s same = true≢false (sym ((bytes_eq-Decides s.error s.endpoint).1 
 
 pub delayed_few : (s : Settings) → s.delayed ≤ 1000
 delayed_few s = leb-true s.delayed 1000 (ranges s).delayed
+
+pub immediate_few : (s : Settings) → s.immediate ≤ 1000
+immediate_few s = leb-true s.immediate 1000 (ranges s).immediate

@@ -13,7 +13,7 @@ use Rattle.nb_base.specs.declared.entry.Op.{Op}
 use Rattle.nb_base.specs.declared.entry.OutboxRow.{OutboxRow}
 use Rattle.nb_core.proofs.Frees.{is_least_free, nothing_free}
 use Rattle.nb_core.specs.After.{least_free}
-use Rattle.nb_core.specs.Replay.{IsImpossible, without}
+use Rattle.nb_core.specs.Tried.{IsImpossible, without}
 use Rattle.nb_core.specs.State.{State, Constants, Phase, Idle, Held, Looked, Sending, Leaving, Done, phase, recorded, HasRoom, IsLeastFree, put_phase, at_phase, put, removed, recording}
 use Rattle.nb_core.specs.Step.{Step, Take, Send, Mark, Aside, Remove, take, send, mark, aside, remove}
 

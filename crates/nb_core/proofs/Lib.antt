@@ -14,6 +14,7 @@ pub mod Frees
 pub mod Held
 pub mod Ids
 pub mod Joining
+pub mod Judging
 pub mod Leases
 pub mod Least
 pub mod Looking
@@ -22,9 +23,11 @@ pub mod Pacing
 pub mod Pasts
 pub mod Placing
 pub mod Putting
+pub mod Reading
 pub mod Recounting
 pub mod Sending
 pub mod Serials
+pub mod Settles
 pub mod Sounding
 pub mod Stales
 pub mod Stating

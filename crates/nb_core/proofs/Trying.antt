@@ -15,7 +15,7 @@ use Rattle.nb_recover.specs.declared.returned.Returned.{Returned}
 use Rattle.nb_core.proofs.Firsts.{any_found, any_at}
 use Rattle.nb_core.specs.After.{are_busy}
 use Rattle.nb_core.specs.Ready.{CanRelease, CanPurge, CanReturn}
-use Rattle.nb_core.specs.Replay.{IsImpossible, Releases, Returns}
+use Rattle.nb_core.specs.Tried.{IsImpossible, Releases, Returns}
 use Rattle.nb_core.specs.State.{State, Constants, Phase, Idle, Held, Looked, Sending, Leaving, Done, phase, number_of, entry, AllIdle, HasRoom, put, removed}
 use Rattle.nb_core.specs.Step.{Step, Load, Tick, Release, Purge, PutBack, DropBack, load, tick, release, purge, put_back, drop_back}
 

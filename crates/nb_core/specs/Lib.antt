@@ -30,4 +30,5 @@ pub mod Stale
 pub mod Standing
 pub mod State
 pub mod Step
+pub mod Tried
 pub mod View

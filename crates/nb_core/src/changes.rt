@@ -2,7 +2,7 @@
 ghost use Rattle.std.specs.Prelude.{◌≡◌, OnOk};
 ghost use Rattle.std.specs.FinMap as map;
 ghost use Rattle.nb_core.specs.State.{HasRoom, put, put_phase, at_phase, removed};
-ghost use Rattle.nb_core.specs.Replay.{without};
+ghost use Rattle.nb_core.specs.Tried.{without};
 
 use crate::phase::Phase;
 use crate::state::State;

@@ -1,6 +1,6 @@
 //! The events of a worker with its entry, but for Look and Settle.
 ghost use Rattle.std.specs.Prelude.{◌≡◌, IfOk};
-ghost use Rattle.nb_core.specs.Replay.{Tried};
+ghost use Rattle.nb_core.specs.Tried.{Tried};
 ghost use Rattle.nb_core.specs.State.{Constants};
 ghost use Rattle.nb_core.specs.Step.{Event};
 

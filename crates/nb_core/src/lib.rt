@@ -13,9 +13,12 @@ mod lease;
 mod phase;
 mod phases;
 mod replay;
+mod settling;
+mod showing;
 mod staleness;
 mod state;
 mod upkeep;
+mod writes;
 
 pub use answers::{DeskFault, Look, Settled, Taken};
 pub use call::{Answer, Call};

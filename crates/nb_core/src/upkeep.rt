@@ -1,7 +1,7 @@
 //! The events that no worker makes.
 ghost use Rattle.std.specs.Prelude.{◌≡◌, ◌↔◌, ◌+◌, ◌≤◌, true, IfOk, IsTrue};
 ghost use Rattle.nb_core.specs.Ready.{CanPurge};
-ghost use Rattle.nb_core.specs.Replay.{Tried, Releases, Returns};
+ghost use Rattle.nb_core.specs.Tried.{Tried, Releases, Returns};
 ghost use Rattle.nb_core.specs.State.{Constants};
 ghost use Rattle.nb_core.specs.Step.{Event};
 

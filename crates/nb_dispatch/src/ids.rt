@@ -15,7 +15,7 @@ pub fn made_id(alloc: Global, endpoint: &str, n: u64, index: u64) -> Result<Text
 }
 
 /// The id of a saga, after the commit with this number.
-fn saga_id(alloc: Global, endpoint: &str, n: u64, which: &SagaRef) -> Result<Text, NoMemory>
+pub fn saga_id(alloc: Global, endpoint: &str, n: u64, which: &SagaRef) -> Result<Text, NoMemory>
     ensures { IfOk result (λ t. t ≡ saga_id_after endpoint.now n which.now) }
 {
     match which {

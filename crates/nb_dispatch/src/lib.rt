@@ -7,6 +7,7 @@ mod laws;
 mod ops;
 mod queues;
 
+pub use ids::saga_id;
 pub use laws::{law_ids, law_ops};
 pub use ops::ops_of;
 

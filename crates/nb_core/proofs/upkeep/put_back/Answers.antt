@@ -1,6 +1,6 @@
 use Rattle.std.proofs.Common.{sym, subst, ◌∙◌, arith}
 use Rattle.nb_core.proofs.Trying.{put_back_made, put_back_not}
-use Rattle.nb_core.specs.Replay.{Returns}
+use Rattle.nb_core.specs.Tried.{Returns}
 use Rattle.nb_core.specs.Step.{Step, PutBack}
 use Rattle.nb_core.proofs.upkeep.put_back.Goals as goal
 

@@ -1,7 +1,7 @@
 use Rattle.std.proofs.Common.{sym, ap, ◌∙◌}
 use Rattle.nb_base.specs.declared.settings.Settings.{Settings}
 use Rattle.nb_core.proofs.Trying.{if_ok, returned_is, same_text, not_there}
-use Rattle.nb_core.specs.Replay.{Returns}
+use Rattle.nb_core.specs.Tried.{Returns}
 use Rattle.nb_core.proofs.upkeep.returned.Goals as goal
 
 pub returns : goal.returns
