@@ -1,5 +1,7 @@
 use crate::lexer::TokenKind;
+use crate::print_script::print;
 use crate::script::{ScriptFault, ScriptKind, parse, tokens};
+use nb_base::Text;
 use std::alloc::Global;
 use std::test::Fail;
 
@@ -116,5 +118,234 @@ fn a_text_that_is_no_utf_8(rt: HostRuntime) -> Result<(), Fail> {
     let fault = tokens(rt.alloc(), bytes).err().ok_or("refused")?;
     assert_eq!(rt; (fault.line, fault.column), (2, 2));
     assert_eq!(rt; fault.kind, ScriptKind::NotUtf8);
+    Ok(())
+}
+
+/// The text that is printed of a script.
+fn printed(alloc: Global, text: &str) -> Result<Text, Fail> {
+    let script = parse(alloc, text.as_bytes())?;
+    Ok(print(alloc, &script)?)
+}
+
+/// A handler with one `let`.
+fn let_of(alloc: Global, value: &str) -> Result<String, Fail> {
+    Ok(format!(in alloc; "handler A {{ let a = {value}; }}")?)
+}
+
+/// What is printed of a value.
+fn printed_value(alloc: Global, value: &str) -> Result<String, Fail> {
+    let text = printed(alloc, let_of(alloc, value)?.as_str())?;
+    let text = text.as_str();
+    let text = text.strip_prefix("handler A { let a = ").ok_or("a let")?;
+    let value = text.strip_suffix(" ; } \n").ok_or("its end")?;
+    Ok(String::from_str(alloc, value)?)
+}
+
+/// How many items a script has whose one value this is, or why it is none.
+fn valued(alloc: Global, value: &str) -> Result<usize, Fail> {
+    let text = let_of(alloc, value)?;
+    Ok(items(alloc, text.as_str())?)
+}
+
+#[test]
+fn the_shop_is_read_back(rt: HostRuntime) -> Result<(), Fail> {
+    let alloc = rt.alloc();
+    let once = printed(alloc, SHOP)?;
+    assert_eq!(rt; items(alloc, once.as_str()), Ok(18));
+    let twice = printed(alloc, once.as_str())?;
+    assert_eq!(rt; twice.as_str(), once.as_str());
+    Ok(())
+}
+
+#[test]
+fn a_script_is_copied(rt: HostRuntime) -> Result<(), Fail> {
+    let alloc = rt.alloc();
+    let script = parse(alloc, SHOP.as_bytes())?;
+    let copy = script.copy(alloc)?;
+    assert_eq!(rt; copy.items().len(), 18);
+    assert_eq!(rt; copy.text(), SHOP);
+    assert_eq!(rt; copy.place(57).line, 2);
+    Ok(())
+}
+
+#[test]
+fn a_message_is_printed(rt: HostRuntime) -> Result<(), Fail> {
+    let text = printed(
+        rt.alloc(),
+        "// one\nmessage Shop.A { row: int, b: text, } message B { }",
+    )?;
+    assert_eq!(rt;
+        text.as_str(),
+        "message Shop . A { row : int , b : text } \nmessage B { } \n"
+    );
+    Ok(())
+}
+
+#[test]
+fn a_saga_is_printed(rt: HostRuntime) -> Result<(), Fail> {
+    let text = printed(
+        rt.alloc(),
+        "saga S revision 2 on a: int { fields { b: int since 2 = - 0, c: int since 2 = -7 } }",
+    )?;
+    assert_eq!(rt;
+        text.as_str(),
+        "saga S revision 2 on a : int { fields { b : int since 2 = 0 , c : int since 2 = - 7 } } \n"
+    );
+    Ok(())
+}
+
+#[test]
+fn parentheses_that_are_needed(rt: HostRuntime) -> Result<(), Fail> {
+    let alloc = rt.alloc();
+    assert_eq!(rt;
+        printed_value(alloc, "((1 + 2)) * (3 * (4))")?.as_str(),
+        "( 1 + 2 ) * ( 3 * 4 )"
+    );
+    assert_eq!(rt;
+        printed_value(alloc, "(1 - 2) - (3 - 4)")?.as_str(),
+        "1 - 2 - ( 3 - 4 )"
+    );
+    assert_eq!(rt;
+        printed_value(alloc, "(1 == 2) == (3 == 4)")?.as_str(),
+        "( 1 == 2 ) == ( 3 == 4 )"
+    );
+    assert_eq!(rt;
+        printed_value(alloc, "-(-(1 + 2))")?.as_str(),
+        "- - ( 1 + 2 )"
+    );
+    Ok(())
+}
+
+#[test]
+fn escapes_are_printed(rt: HostRuntime) -> Result<(), Fail> {
+    let value = printed_value(rt.alloc(), r#""a\"b\\c\n\r\tü""#)?;
+    assert_eq!(rt; value.as_str(), r#""a\"b\\c\n\r\tü""#);
+    Ok(())
+}
+
+#[test]
+fn a_number_ends_at_its_digits(rt: HostRuntime) -> Result<(), Fail> {
+    let alloc = rt.alloc();
+    assert_eq!(rt;
+        items(alloc, "handler A { let a = 12abc; }"),
+        refusal(1, 23, ScriptKind::Expected)
+    );
+    assert_eq!(rt; items(alloc, "handler A { after 5send A {}; }"), Ok(1));
+    assert_eq!(rt; valued(alloc, "007")?, 1);
+    assert_eq!(rt;
+        items(alloc, "handler A { let a = -9223372036854775808; }"),
+        refusal(1, 22, ScriptKind::BadNumber)
+    );
+    Ok(())
+}
+
+#[test]
+fn comments_end_at_a_line_feed(rt: HostRuntime) -> Result<(), Fail> {
+    let alloc = rt.alloc();
+    assert_eq!(rt; items(alloc, "// a\rmessage"), Ok(0));
+    assert_eq!(rt;
+        items(alloc, "// a\n message"),
+        refusal(2, 9, ScriptKind::Expected)
+    );
+    assert_eq!(rt;
+        items(alloc, "\u{feff}"),
+        refusal(1, 1, ScriptKind::BadToken)
+    );
+    Ok(())
+}
+
+#[test]
+fn columns_count_bytes(rt: HostRuntime) -> Result<(), Fail> {
+    assert_eq!(rt;
+        items(rt.alloc(), "handler A { let a = \"ü\" \"b\"; }"),
+        refusal(1, 26, ScriptKind::Expected)
+    );
+    Ok(())
+}
+
+#[test]
+fn keywords_name_fields_alone(rt: HostRuntime) -> Result<(), Fail> {
+    let alloc = rt.alloc();
+    assert_eq!(rt;
+        items(alloc, "message A { row: int, message: text, }"),
+        Ok(1)
+    );
+    assert_eq!(rt;
+        items(alloc, "message row { }"),
+        refusal(1, 9, ScriptKind::Expected)
+    );
+    assert_eq!(rt;
+        items(alloc, "message A { a: int,, }"),
+        refusal(1, 20, ScriptKind::Expected)
+    );
+    Ok(())
+}
+
+/// So many of a text, one behind the other.
+fn row_of(alloc: Global, text: &str, count: usize) -> Result<String, Fail> {
+    let mut row = String::new(alloc);
+    for _ in 0..count {
+        row.push_str(text)?;
+    }
+    Ok(row)
+}
+
+/// A value in so many parentheses.
+fn nested(alloc: Global, count: usize) -> Result<String, Fail> {
+    let open = row_of(alloc, "(", count)?;
+    let close = row_of(alloc, ")", count)?;
+    let text = format!(in alloc; "handler A {{ let a = {open}1{close}; }}")?;
+    Ok(text)
+}
+
+#[test]
+fn levels_are_counted(rt: HostRuntime) -> Result<(), Fail> {
+    let alloc = rt.alloc();
+    assert_eq!(rt; items(alloc, nested(alloc, 99)?.as_str()), Ok(1));
+    assert_eq!(rt;
+        items(alloc, nested(alloc, 100)?.as_str()),
+        refusal(1, 120, ScriptKind::TooDeep)
+    );
+    Ok(())
+}
+
+#[test]
+fn each_else_if_is_a_level(rt: HostRuntime) -> Result<(), Fail> {
+    let alloc = rt.alloc();
+    let chain = row_of(alloc, "else if true {} ", 98)?;
+    let text = format!(in alloc; "handler A {{ if true {{}} {chain}}}")?;
+    assert_eq!(rt; items(alloc, text.as_str()), Ok(1));
+    let text = format!(in alloc; "handler A {{ if true {{}} {chain}else if true {{}} }}")?;
+    assert_eq!(rt;
+        items(alloc, text.as_str()),
+        refusal(1, 1605, ScriptKind::TooDeep)
+    );
+    Ok(())
+}
+
+#[test]
+fn operators_are_counted(rt: HostRuntime) -> Result<(), Fail> {
+    let alloc = rt.alloc();
+    let sum = row_of(alloc, "1+", 1000)?;
+    let text = format!(in alloc; "handler A {{ let a = {sum}1; }}")?;
+    assert_eq!(rt; items(alloc, text.as_str()), Ok(1));
+    let text = format!(in alloc; "handler A {{ let a = {sum}1+1; }}")?;
+    assert_eq!(rt;
+        items(alloc, text.as_str()),
+        refusal(1, 2022, ScriptKind::TooDeep)
+    );
+    Ok(())
+}
+
+#[test]
+fn a_text_that_is_too_long(rt: HostRuntime) -> Result<(), Fail> {
+    let alloc = rt.alloc();
+    let blanks = row_of(alloc, " ", 1048576)?;
+    assert_eq!(rt; items(alloc, blanks.as_str()), Ok(0));
+    let more = format!(in alloc; "{blanks} ")?;
+    assert_eq!(rt;
+        items(alloc, more.as_str()),
+        refusal(1, 1, ScriptKind::TooLong)
+    );
     Ok(())
 }
