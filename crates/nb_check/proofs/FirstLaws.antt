@@ -8,6 +8,6 @@ some-stays b [] h = cc
 some-stays b (f ∷ fs) h = some-stays (earlier (Some b) f) fs h
 
 -- where there is no first one, there is none
-pub first-none : (fs : List Breach) → first_of fs ≡ None → fs ≡ []
-first-none [] h = refl
-first-none (f ∷ fs) h = absurd (some-stays f fs h)
+pub first_none : (fs : List Breach) → first_of fs ≡ None → fs ≡ []
+first_none [] h = refl
+first_none (f ∷ fs) h = absurd (some-stays f fs h)

@@ -2,5 +2,6 @@ pub mod FirstLaws
 pub mod KeyLaws
 pub mod MetLaws
 pub mod SendLaws
+pub mod SentLaws
 pub mod SightLaws
 pub mod TypeTexts

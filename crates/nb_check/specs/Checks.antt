@@ -1,19 +1,17 @@
 -- Scripts that break no rule.
-use Rattle.std.specs.Prelude.{◌≡◌, ℕ, List, [], Option, Some, None, Result, Ok, Err, slice_get}
+use Rattle.std.specs.Prelude.{◌≡◌, ℕ, List, [], Option, Some, None, slice_get}
+use Rattle.std.specs.List.{AllByRecursion}
+use Rattle.nb_base.specs.Meanings.{IsAmong}
 use Rattle.nb_base.specs.Messages.{Message}
 use Rattle.nb_base.specs.declared.value.Field.{Field}
 use Rattle.nb_base.specs.declared.value.Key.{Key}
 use Rattle.nb_script.specs.Grammar.{ItemTerm}
 use Rattle.nb_check.specs.Bodies.{decoded}
-use Rattle.nb_check.specs.Breaches.{first_of}
 use Rattle.nb_check.specs.Declarations.{messages, names_of, sagas}
 use Rattle.nb_check.specs.Keys.{read_set}
 use Rattle.nb_check.specs.Meets.{met_numbers}
 use Rattle.nb_check.specs.Rules.{script_faults}
 use Rattle.nb_check.specs.Sends.{sends}
-use Rattle.nb_check.specs.declared.breach.Breach.{Breach}
-use Rattle.nb_check.specs.declared.refused.Refused.{Refused}
-use Rattle.nb_check.specs.declared.refused.Refused.TheVariants.{Broken, NoMemory}
 use Rattle.nb_check.specs.declared.types.MessageType.{MessageType}
 use Rattle.nb_check.specs.declared.types.SagaType.{SagaType}
 
@@ -45,12 +43,6 @@ blocks_met items e = met_numbers items (declared_names items) e
 abbrev pub keys_read : List ItemTerm → Message → List Key
 keys_read items e = read_set items (messages items) e
 
--- Why a script was refused: by the breach that no other is before, or want of memory.
-abbrev pub Refuses : List Breach → Refused → Type 0
-Refuses fs (Broken b) = first_of fs ≡ Some b
-Refuses fs NoMemory = Unit {0}
-
--- No rule is broken, or the script was refused.
-abbrev pub IsUnbroken : List Breach → Result (Unit {0}) Refused → Type 0
-IsUnbroken fs (Ok u) = fs ≡ []
-IsUnbroken fs (Err e) = Refuses fs e
+-- each message that the script sends is declared
+abbrev pub AreDeclared : List ItemTerm → Type 0
+AreDeclared items = AllByRecursion (λ name. IsAmong name (declared_names items)) (sends items)

@@ -3,6 +3,7 @@ pub mod Bodies
 pub mod Breaches
 pub mod Checks
 pub mod Declarations
+pub mod Faults
 pub mod Fits
 pub mod Keys
 pub mod Kinds

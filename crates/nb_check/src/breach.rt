@@ -4,43 +4,61 @@ ghost use Rattle.nb_check.specs.Breaches as spec;
 ghost use Rattle.nb_check.specs.Breaches.{again, twice, rank, is_before, first_of};
 
 use nb_base::{Items, NoMemory, Text};
+use thiserror::Error;
 
 /// The rules, in the order in which they are reported at one place.
-#[derive(Clone, Copy, Debug, PartialEq, Eq)]
+#[derive(Clone, Copy, Debug, Drop, PartialEq, Eq, Error)]
 pub enum CheckKind {
     /// Each message is declared once.
+    #[error("MessageTwice")]
     MessageTwice,
     /// Each saga is declared once.
+    #[error("SagaTwice")]
     SagaTwice,
     /// The field names of a message, of a saga with its correlation property, and of a message that is made differ.
+    #[error("FieldTwice")]
     FieldTwice,
     /// A correlation property is a number or a text.
+    #[error("BadCorrelation")]
     BadCorrelation,
     /// A revision lies from 1 to 1000, and one since which a field is there from 2 to the saga's.
+    #[error("BadRevision")]
     BadRevision,
     /// Each type names a declared message.
+    #[error("UnknownMessage")]
     UnknownMessage,
     /// In a saga a message stands in at most one of start, find and reply, and in at most one timeout.
+    #[error("PartTwice")]
     PartTwice,
     /// A field that is named exists.
+    #[error("UnknownField")]
     UnknownField,
     /// A message that is made is given every field.
+    #[error("FieldMissing")]
     FieldMissing,
     /// What speaks of a saga stands in a part of one.
+    #[error("NoSaga")]
     NoSaga,
     /// The correlation property isn't set.
+    #[error("SetsCorrelation")]
     SetsCorrelation,
     /// The message of a timeout statement has a timeout part in the saga.
+    #[error("NoTimeoutPart")]
     NoTimeoutPart,
     /// A name that is made is new among those in sight.
+    #[error("NameTwice")]
     NameTwice,
     /// A name that is used is in sight.
+    #[error("UnknownName")]
     UnknownName,
     /// A row's name is built of what the message alone says.
+    #[error("RowName")]
     RowName,
     /// Kinds agree.
+    #[error("WrongType")]
     WrongType,
     /// There was no memory for the check.
+    #[error("NoMemory")]
     NoMemory,
 }
 

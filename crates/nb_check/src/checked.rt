@@ -1,34 +1,37 @@
 //! A script that breaks no rule, which contracts see as its items.
 ghost use Rattle.std.specs.Prelude.{◌≡◌, ◌<◌, [], true, Some, is_some, length, IfOk, IfErr};
+ghost use Rattle.nb_script.specs.Scripts.{rows_of, items_of};
 ghost use Rattle.nb_script.specs.Tree.{script};
 ghost use Rattle.nb_check.specs.Bodies.{Decodes};
 ghost use Rattle.nb_check.specs.Declarations.{messages, sagas};
 ghost use Rattle.nb_check.specs.Fits.{fits, lift, saga_named};
 ghost use Rattle.nb_check.specs.Keys.{same_key};
+ghost use Rattle.nb_check.specs.Breaches as breaches;
 ghost use Rattle.nb_check.specs.Rules.{script_faults};
 ghost use Rattle.nb_check.specs.Sends.{sends};
 ghost use Rattle.std.specs.List.{IsDistinct};
-ghost use Rattle.nb_check.specs.Checks.{declared_names, body_fields, blocks_met, keys_read, Refuses, IsUnbroken};
+ghost use Rattle.nb_check.specs.Checks.{declared_names, body_fields, blocks_met, keys_read, AreDeclared};
+ghost use Rattle.nb_check.specs.Faults.{IsCheckFault};
 
 use crate::bodies::{BodyFault, decoded};
-use crate::breach::first_of;
+use crate::breach::{Breach, first_of};
+use crate::fault::CheckFault;
 use crate::fits::{fits_type, lifted, saga_named};
 use crate::key_set::read_set;
 use crate::met::{Blocks, met_numbers};
-use crate::refused::Refused;
 use crate::rules::script_faults;
 use crate::sends::sends;
 use crate::types::{MessageType, SagaType, messages, names_of, sagas};
 use nb_base::{Envelope, Fields, Items, Keys, Names, NoMemory, SagaRow, Text};
+use nb_script::Script;
 use nb_script::item::Item;
-use sqlite_items::Items as Rows;
 use std::alloc::Global;
 use std::marker::Model;
 
 /// A script that breaks no rule.
 #[derive(Drop)]
 pub struct Checked {
-    items: Rows<Item>,
+    script: Script,
     types: Items<MessageType>,
     names: Names,
     kinds: Items<SagaType>,
@@ -38,7 +41,7 @@ pub struct Checked {
 impl Model for Checked {
     ghost use Rattle.std.specs.Prelude.{List};
     ghost use Rattle.std.specs.Coded.{codes};
-    ghost use Rattle.nb_script.specs.Tree.{script};
+    ghost use Rattle.nb_script.specs.Scripts.{rows_of, items_of};
     ghost use Rattle.nb_script.specs.declared.item.Item.{Item};
     ghost use Rattle.nb_script.specs.contracts.item.Item as e;
     ghost use Rattle.nb_check.specs.Checks.{IsChecked};
@@ -47,50 +50,54 @@ impl Model for Checked {
 
     ghost coded = { Prim.hlevel (codes, e.the_row.coded) };
 
-    ghost view = { λ c. c.items };
+    ghost view = { λ c. rows_of c.script };
 
-    ghost invariant = { λ c. IsChecked (script c.items) c.types c.names c.kinds c.sends };
+    ghost invariant = { λ c. IsChecked (items_of c.script) c.types c.names c.kinds c.sends };
 }
 
-/// Ok exactly where the script breaks no rule.
-fn unbroken(alloc: Global, types: &[MessageType], items: &[Item]) -> Result<(), Refused>
+/// The breach that no other is before.
+fn first_breach(
+    alloc: Global,
+    types: &[MessageType],
+    items: &[Item],
+) -> Result<Option<Breach>, NoMemory>
     requires { types.now ≡ messages (script items.now) }
-    ensures { IsUnbroken (script_faults (script items.now)) result }
+    ensures { IfOk result (λ b. b ≡ breaches.first_of (script_faults (script items.now))) }
 {
     let breaches = script_faults(alloc, types, items)?;
-    match first_of(breaches.as_slice()) {
-        None => Ok(()),
-        Some(breach) => Err(Refused::Broken(breach)),
+    Ok(first_of(breaches.as_slice()))
+}
+
+/// The script, where it breaks no rule.
+#[tactic(auto, using(crate::proofs::FirstLaws::first_none))]
+pub fn check(alloc: Global, script: Script) -> Result<Checked, CheckFault>
+    ensures value { IfOk result (λ c. c ≡ rows_of script) }
+    ensures rules { IfOk result (λ c. script_faults (items_of script) ≡ []) }
+    ensures refused { IfErr result (λ f. IsCheckFault script f) }
+{
+    let types = messages(alloc, script.items())?;
+    if let Some(breach) = first_breach(alloc, types.as_slice(), script.items())? {
+        return Err(CheckFault::of(&script, breach));
     }
+    let names = names_of(alloc, types.as_slice())?;
+    let kinds = sagas(alloc, script.items())?;
+    let sends = sends(alloc, script.items())?;
+    Ok(Checked {
+        script,
+        types,
+        names,
+        kinds,
+        sends,
+    })
 }
 
 impl Checked {
-    /// The script, where it breaks no rule.
-    pub fn of_items(alloc: Global, items: Rows<Item>) -> Result<Checked, Refused>
-        ensures value { IfOk result (λ c. c ≡ items) }
-        ensures rules { IfOk result (λ c. script_faults (script c) ≡ []) }
-        ensures refused { IfErr result (λ e. Refuses (script_faults (script items)) e) }
-    {
-        let types = messages(alloc, items.as_slice())?;
-        unbroken(alloc, types.as_slice(), items.as_slice())?;
-        let names = names_of(alloc, types.as_slice())?;
-        let kinds = sagas(alloc, items.as_slice())?;
-        let sends = sends(alloc, items.as_slice())?;
-        Ok(Checked {
-            items,
-            types,
-            names,
-            kinds,
-            sends,
-        })
-    }
-
     /// The items of the script.
     pub fn items(&self) -> &[Item]
         ensures value { result.now ≡ self.now }
         ensures rules { script_faults (script self.now) ≡ [] }
     {
-        self.items.as_slice()
+        self.script.items()
     }
 
     /// The names of the declared messages, in the order of the script.
@@ -102,8 +109,10 @@ impl Checked {
 
     /// The types of the messages that the script sends to the queues of their routes, one for each `send` in the text, in
     /// order.
+    #[tactic(auto, using(crate::proofs::SentLaws::sent_declared))]
     pub fn sends(&self) -> &Names
-        ensures { result.now ≡ sends (script self.now) }
+        ensures value { result.now ≡ sends (script self.now) }
+        ensures declared { AreDeclared (script self.now) }
     {
         &self.sends
     }
@@ -161,7 +170,7 @@ pub fn decode_body(
 pub fn meets(alloc: Global, c: &Checked, e: &Envelope) -> Result<Blocks, NoMemory>
     ensures { IfOk result (λ ns. ns ≡ blocks_met (script c.now) e.now) }
 {
-    met_numbers(alloc, c.items.as_slice(), &c.names, e)
+    met_numbers(alloc, c.script.items(), &c.names, e)
 }
 
 /// The keys that a message reads, each once, in the order of first use. There are none where its body doesn't decode or
@@ -170,5 +179,5 @@ pub fn keys(alloc: Global, c: &Checked, e: &Envelope) -> Result<Keys, NoMemory>
     ensures value { IfOk result (λ ks. ks ≡ keys_read (script c.now) e.now) }
     ensures distinct { IfOk result (λ ks. IsDistinct same_key ks) }
 {
-    read_set(alloc, c.items.as_slice(), c.types.as_slice(), &c.names, e)
+    read_set(alloc, c.script.items(), c.types.as_slice(), &c.names, e)
 }

@@ -2,7 +2,8 @@
 ghost use Rattle.std.specs.Prelude.{◌≡◌, ◌++◌, IfOk, OnOk, Some};
 ghost use Rattle.nb_script.specs.Tree as tree;
 ghost use Rattle.nb_check.specs.Kinds as spec;
-ghost use Rattle.nb_check.specs.Kinds.{field_kind, judgement, is_message_field, is_id, is_text_function, piece_kind, piece_field, name_faults, message_field_faults, saga_field_faults, field_faults, argument_faults};
+ghost use Rattle.nb_check.specs.Breaches.{unless_some};
+ghost use Rattle.nb_check.specs.Kinds.{field_kind, judgement, local_in, is_message_field, is_id, is_text_function, piece_kind, piece_field, name_faults, message_field_faults, saga_field_faults, field_faults, argument_faults};
 
 use crate::breach::{Breaches, CheckKind, blame, want_true};
 use crate::known::is_join;
@@ -195,72 +196,79 @@ impl Sight {
         }
     }
 
+    fn judge_field(
+        &self,
+        holder: Holder,
+        name: &Text,
+        at: u32,
+        name_at: u32,
+        breaches: &mut Breaches,
+    ) -> Result<Judgement, NoMemory>
+        ensures said { IfOk result (λ j. j ≡ record { at = at; kind = field_kind holder name.now self.now }) }
+        ensures broken { OnOk result (breaches.new ≡ breaches.old ++ field_faults holder at name_at name.now self.now) }
+    {
+        self.want_field(holder, name, at, name_at, breaches)?;
+        Ok(Judgement {
+            at,
+            kind: self.field_kind(holder, name),
+        })
+    }
+
+    fn judge_name(
+        &self,
+        name: &Text,
+        at: u32,
+        breaches: &mut Breaches,
+    ) -> Result<Judgement, NoMemory>
+        ensures said { IfOk result (λ j. j ≡ record { at = at; kind = spec.known (local_in name.now self.now.names) }) }
+        ensures broken { OnOk result (breaches.new ≡ breaches.old ++ unless_some (local_in name.now self.now.names) at CheckKind.UnknownName) }
+    {
+        let found = local_in(name, self.names.as_slice());
+        want_true(breaches, found.is_some(), at, CheckKind::UnknownName)?;
+        Ok(Judgement {
+            at,
+            kind: known(found),
+        })
+    }
+
     /// The place and the kind of an expression; the rules that it breaks are added.
     pub(crate) fn judge(&self, e: &Expr, breaches: &mut Breaches) -> Result<Judgement, NoMemory>
         ensures said { IfOk result (λ j. j ≡ judgement (tree.tree e.now) self.now) }
         ensures broken { OnOk result (breaches.new ≡ breaches.old ++ spec.faults (tree.tree e.now) self.now) }
     {
         match e {
-            Expr::Number { at, .. } => Ok(Judgement {
-                at: *at,
-                kind: Some(FieldKind::Int),
-            }),
-            Expr::Quoted { at, .. } => Ok(Judgement {
-                at: *at,
-                kind: Some(FieldKind::Text),
-            }),
-            Expr::Constant { at, constant } => Ok(Judgement {
-                at: *at,
-                kind: Some(constant_kind(*constant)),
-            }),
+            Expr::Number { at, .. } => Ok(judged(*at, FieldKind::Int)),
+            Expr::Quoted { at, .. } => Ok(judged(*at, FieldKind::Text)),
+            Expr::Constant { at, constant } => Ok(judged(*at, constant_kind(*constant))),
             Expr::Field {
                 at,
                 holder,
                 name_at,
                 name,
                 ..
-            } => {
-                self.want_field(*holder, name, *at, *name_at, breaches)?;
-                Ok(Judgement {
-                    at: *at,
-                    kind: self.field_kind(*holder, name),
-                })
-            }
-            Expr::Name { at, name } => {
-                let found = local_in(name, self.names.as_slice());
-                want_true(breaches, found.is_some(), *at, CheckKind::UnknownName)?;
-                Ok(Judgement {
-                    at: *at,
-                    kind: known(found),
-                })
-            }
+            } => self.judge_field(*holder, name, *at, *name_at, breaches),
+            Expr::Name { at, name } => self.judge_name(name, *at, breaches),
             Expr::Call {
                 at,
                 function,
                 argument,
                 ..
             } => {
-                let judged = self.judge(argument.get(), breaches)?;
-                self.want_argument(*function, argument.get(), judged, breaches)?;
-                Ok(Judgement {
-                    at: *at,
-                    kind: Some(call_kind(*function)),
-                })
+                let inner = self.judge(argument.get(), breaches)?;
+                self.want_argument(*function, argument.get(), inner, breaches)?;
+                Ok(judged(*at, call_kind(*function)))
             }
             Expr::Paren { open_at, inner, .. } => {
-                let judged = self.judge(inner.get(), breaches)?;
+                let inner = self.judge(inner.get(), breaches)?;
                 Ok(Judgement {
                     at: *open_at,
-                    kind: judged.kind,
+                    kind: inner.kind,
                 })
             }
             Expr::Prefix { at, op, operand } => {
-                let judged = self.judge(operand.get(), breaches)?;
-                want(breaches, prefix_kind(*op), judged)?;
-                Ok(Judgement {
-                    at: *at,
-                    kind: Some(prefix_kind(*op)),
-                })
+                let inner = self.judge(operand.get(), breaches)?;
+                want(breaches, prefix_kind(*op), inner)?;
+                Ok(judged(*at, prefix_kind(*op)))
             }
             Expr::Infix {
                 left,
@@ -268,15 +276,21 @@ impl Sight {
                 right,
                 ..
             } => {
-                let a = self.judge(left.get(), breaches)?;
-                let b = self.judge(right.get(), breaches)?;
-                want_operands(breaches, taken_by(*op), a, b)?;
-                Ok(Judgement {
-                    at: a.at,
-                    kind: Some(made_by(*op)),
-                })
+                let left = self.judge(left.get(), breaches)?;
+                let right = self.judge(right.get(), breaches)?;
+                want_operands(breaches, taken_by(*op), left, right)?;
+                Ok(judged(left.at, made_by(*op)))
             }
         }
+    }
+}
+
+fn judged(at: u32, kind: FieldKind) -> Judgement
+    ensures { result ≡ record { at = at; kind = Some kind } }
+{
+    Judgement {
+        at,
+        kind: Some(kind),
     }
 }
 

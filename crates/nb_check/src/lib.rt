@@ -5,6 +5,7 @@
 mod bodies;
 mod breach;
 mod checked;
+mod fault;
 mod fits;
 mod follow;
 mod incoming;
@@ -12,7 +13,6 @@ mod judge;
 mod key_set;
 mod known;
 mod met;
-mod refused;
 mod rules;
 mod sends;
 mod sight;
@@ -20,10 +20,10 @@ mod types;
 
 pub use bodies::BodyFault;
 pub use breach::{Breach, CheckKind, Placed};
-pub use checked::{Checked, decode_body, keys, meets};
+pub use checked::{Checked, check, decode_body, keys, meets};
+pub use fault::CheckFault;
 pub use incoming::{Address, Incoming};
 pub use known::Known;
 pub use met::Blocks;
-pub use refused::Refused;
 pub use sight::{Judgement, Local, SagaSight, Sight, Taken};
 pub use types::{Declared, MessageType, SagaType, StateField};

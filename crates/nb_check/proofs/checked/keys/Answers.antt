@@ -13,4 +13,4 @@ distinct_if (Err e) all h d = tt
 
 pub returns-clause-distinct : goal.returns-clause-distinct
 returns-clause-distinct c =
-    distinct_if c.read_set.result _ c.read_set.ensures (read_set-distinct (script c.as_slice.result.now) c.as_slice-2.result.now c.args.e.now)
+    distinct_if c.read_set.result _ c.read_set.ensures (read_set-distinct (script c.items.result.now) c.as_slice.result.now c.args.e.now)
