@@ -1,5 +1,5 @@
 -- The cells that tables have once cells joined them are those cells.
-use Rattle.std.specs.Prelude.{◌≡◌, ◌≢◌, ◌⊎◌, ◌≤◌, ◌==◌, ◌&&◌, ℕ, zero, suc, List, [], ◌∷◌, ◌++◌, map as map_list, length, Bool, true, false, cond, bytes_eq, All, Contains, Option, Some, None, refl}
+use Rattle.std.specs.Prelude.{◌≡◌, ◌⊎◌, ◌≤◌, ◌==◌, ◌&&◌, ℕ, zero, suc, List, [], ◌∷◌, ◌++◌, map as map_list, length, Bool, true, false, cond, bytes_eq, Option, Some, None, refl}
 use Rattle.std.proofs.Common.{◌∙◌, ap, sym, subst, arith, inl, inr, true≢false, eqb-true, lit≤}
 use Rattle.std.specs.Cmp.Lexicographic.{bytes_decides}
 use Rattle.std.specs.List.{AllByRecursion}
@@ -18,8 +18,8 @@ use Rattle.nb_saga_store.specs.Maps.{HaveStored, AreSpelled}
 use Rattle.nb_saga_store.specs.Spelled.{place_of}
 use Rattle.nb_saga_store.specs.declared.written.Written.TheVariants.{Saga, Row}
 use Rattle.nb_store.specs.CellMaps.{cells, count_bytes, spelled_count, HasCells}
-use Rattle.nb_store.specs.Opening.{Part, count, saga, row, handled, cell_of, Fits, with_part, Joined, Joins, no_tables}
-use Rattle.nb_store.specs.Scanning.{ScansAll, AreCellsOf, Opens}
+use Rattle.nb_store.specs.Opening.{Part, count, saga, row, handled, cell_of, Fits, with_part, Joins, no_tables}
+use Rattle.nb_store.specs.Scanning.{ScansAll, Opens}
 use Rattle.nb_store.specs.declared.parts.Scanned.{Scanned}
 use Rattle.nb_store.proofs.ChangeLaws.{alone_id}
 use Rattle.nb_store.proofs.OpenLaws.{open_nothing, no_entries}
@@ -30,7 +30,7 @@ use Rattle.nb_base.specs.declared.tables.Row.{Row as StoredLine}
 
 -- ---- the four spaces
 
-by_space : (P : ℕ → Type 0) → P 1 → P 2 → P 3 → P 4 → (s : ℕ) → IsSpace s → P s
+pub by_space : (P : ℕ → Type 0) → P 1 → P 2 → P 3 → P 4 → (s : ℕ) → IsSpace s → P s
 by_space P a b c d zero is = absurd (let x = is.0 in omega arith)
 by_space P a b c d (suc zero) is = a
 by_space P a b c d (suc (suc zero)) is = b
@@ -38,16 +38,16 @@ by_space P a b c d (suc (suc (suc zero))) is = c
 by_space P a b c d (suc (suc (suc (suc zero)))) is = d
 by_space P a b c d (suc (suc (suc (suc (suc n))))) is = absurd (let x = is.1 in omega arith)
 
-one_ok : IsSpace 1
+pub one_ok : IsSpace 1
 one_ok = (lit≤ tt, lit≤ tt)
 
-two_ok : IsSpace 2
+pub two_ok : IsSpace 2
 two_ok = (lit≤ tt, lit≤ tt)
 
-three_ok : IsSpace 3
+pub three_ok : IsSpace 3
 three_ok = (lit≤ tt, lit≤ tt)
 
-four_ok : IsSpace 4
+pub four_ok : IsSpace 4
 four_ok = (lit≤ tt, lit≤ tt)
 
 -- ---- a cell that joins
@@ -55,7 +55,7 @@ four_ok = (lit≤ tt, lit≤ tt)
 put_of : Cell → Change
 put_of c = Put c.space c.key c.bytes
 
-some_count : (n : ℕ) → 1 ≤ n → cond (n == 0) None (Some (spelled_count n)) ≡ Some (spelled_count n)
+pub some_count : (n : ℕ) → 1 ≤ n → cond (n == 0) None (Some (spelled_count n)) ≡ Some (spelled_count n)
 some_count n from = (elim (n == 0) as (λ b. (n == 0) ≡ b → cond b None (Some (spelled_count n)) ≡ Some (spelled_count n)) [
   | true ↦ λ e. absurd (let z = eqb-true n 0 e in omega arith)
   | false ↦ λ e. refl
@@ -71,7 +71,7 @@ count_at n old (k ∷ key) o from has none = has ∙ keyed
     keyed : count_bytes old (k ∷ key) ≡ count_bytes n (k ∷ key)
     keyed = rw past refl
 
-stored_has : (m : CellMap) (t : Tables) → HasCells m t → HaveStored m (stored t)
+pub stored_has : (m : CellMap) (t : Tables) → HasCells m t → HaveStored m (stored t)
 stored_has m t has = record { sagas = λ key. has 2 key two_ok; rows = λ key. has 3 key three_ok }
 
 joined_cells : (m : CellMap) (t : Tables) (p : Part) → AreSpelled (stored t) → Fits t p → HasCells m t → HasCells (with_change m (put_of (cell_of p))) (with_part t p) × AreSpelled (stored (with_part t p))

@@ -1,20 +1,19 @@
 -- Changes of cells, and the tables whose cells they change.
-use Rattle.std.specs.Prelude.{◌≡◌, ◌≢◌, ◌≤◌, ◌<◌, ◌==◌, ℕ, List, [], ◌∷◌, length, Bool, true, false, cond, bytes_eq, All, Option, Some, None, refl}
-use Rattle.std.proofs.Common.{◌∙◌, ap, sym, subst, arith, true≢false}
-use Rattle.std.specs.List.{IsDistinct, AllByRecursion}
+use Rattle.std.specs.Prelude.{◌≡◌, ◌==◌, ℕ, List, [], ◌∷◌, Bool, true, false, cond, bytes_eq, None, refl}
+use Rattle.std.proofs.Common.{◌∙◌, ap, sym, subst, arith}
+use Rattle.std.specs.List.{IsDistinct}
 use Rattle.std.specs.FinMap as map
 use Rattle.std.proofs.lemmas.List.Elements.{All-nil, All-cons}
 use Rattle.nb_base.proofs.Maps.{names}
-use Rattle.nb_base.specs.declared.entry.OutboxRow.{OutboxRow}
 use Rattle.nb_base.specs.declared.tables.Tables.{Tables}
-use Rattle.nb_cells.specs.Cells.{CellMap, IsSpace, AreInSpaces, AreDistinct, space_of, place_of, changed}
+use Rattle.nb_cells.specs.Cells.{CellMap, IsSpace, AreInSpaces, AreDistinct, space_of, changed}
 use Rattle.nb_cells.specs.declared.change.Change.{Change}
-use Rattle.nb_cells.specs.declared.change.Change.TheVariants.{Put, Erase}
+use Rattle.nb_cells.specs.declared.change.Change.TheVariants.{Erase}
 use Rattle.nb_outbox.specs.Spelled.{spelled_record}
-use Rattle.nb_saga_store.proofs.MapLaws.{IsAlone, spelled-insert, spelled-remove}
+use Rattle.nb_saga_store.proofs.MapLaws.{IsAlone, spelled-remove}
 use Rattle.nb_store.specs.Applied.{Leads}
 use Rattle.nb_store.specs.Calls.{purged}
-use Rattle.nb_store.specs.CellMaps.{cells, HasCells}
+use Rattle.nb_store.specs.CellMaps.{cells}
 
 pub one_in_space : (c : Change) → IsSpace (space_of c) → AreInSpaces (c ∷ [])
 one_in_space c is = All-cons (λ c. IsSpace (space_of c)) c [] is (All-nil (λ c. IsSpace (space_of c)))

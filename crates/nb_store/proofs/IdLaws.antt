@@ -1,9 +1,9 @@
 -- The ids of sagas.
-use Rattle.std.specs.Prelude.{◌≡◌, ◌≢◌, ◌≤◌, ◌<◌, ◌+◌, ◌^◌, ◌&&◌, ◌==◌, ◌↔◌, ℕ, zero, suc, List, [], ◌∷◌, ◌++◌, length, take, drop, Bool, true, false, cond, nat_lt, nat_le, IsTrue, MatchOption, Option, Some, None, Result, Ok, Err, refl}
-use Rattle.std.proofs.Common.{Bor, ◌∙◌, ap, sym, subst, arith, rules, get_or, true≢false, ltb-true, lt-ltb, leb-true, le-leb, lit<, append_assoc}
+use Rattle.std.specs.Prelude.{◌≡◌, ◌≢◌, ◌≤◌, ◌<◌, ◌^◌, ◌&&◌, ◌==◌, ◌↔◌, ℕ, suc, List, [], ◌∷◌, ◌++◌, length, take, drop, Bool, true, false, nat_lt, nat_le, IsTrue, MatchOption, Option, Some, None, Result, Ok, Err, refl}
+use Rattle.std.proofs.Common.{Bor, ◌∙◌, ap, sym, subst, arith, rules, get_or, true≢false, ltb-true, lt-ltb, leb-true, le-leb, lit<}
 use Rattle.std.specs.Char.{is_ascii_digit}
 use Rattle.std.specs.Fmt.{decimal}
-use Rattle.std.specs.List.{list_all, AllByRecursion}
+use Rattle.std.specs.List.{list_all}
 use Rattle.std.specs.Result.{OkIff}
 use Rattle.std.specs.Str.{NoCharPasses}
 use Rattle.std.specs.Str.Pattern.{RFindsChar, SplitsAroundMatch}

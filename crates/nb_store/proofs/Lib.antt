@@ -4,3 +4,6 @@ pub mod KeptLaws
 pub mod IdLaws
 pub mod OpenLaws
 pub mod CellLaws
+pub mod BatchLaws
+pub mod LinkLaws
+pub mod CommitLaws

@@ -1,13 +1,12 @@
 -- What is kept of the tables while their cells are read.
-use Rattle.std.specs.Prelude.{◌≡◌, ◌≢◌, ◌⊎◌, ◌≤◌, ◌<◌, ◌^◌, ◌==◌, ◌+◌, ℕ, ℤ, zero, suc, List, [], ◌∷◌, ◌++◌, length, take, slice_get, Bool, true, false, cond, Option, Some, None, Result, Ok, Err, refl}
+use Rattle.std.specs.Prelude.{◌≡◌, ◌≢◌, ◌⊎◌, ◌≤◌, ◌<◌, ◌^◌, ◌==◌, ◌+◌, ℕ, zero, suc, List, [], ◌∷◌, ◌++◌, length, take, slice_get, Bool, true, false, cond, Some, None, Result, Ok, Err, refl}
 use Rattle.std.proofs.Common.{◌∙◌, ap, sym, subst, arith, inl, inr, eqb-true, append_assoc, Ordering}
 use Rattle.std.specs.Ordering.{nat_cmp}
 use Rattle.std.proofs.lemmas.List.{nil_from_length, take_all}
 use Rattle.nb_base.proofs.ListLaws.{take_next}
 use Rattle.std.specs.FinMap as map
 use Rattle.nb_base.proofs.Maps.{names, numbers, places, same_or_other, at_same, at_other}
-use Rattle.nb_base.specs.Orders.{ByName, ByNumber, BySaga, name_cmp, saga_key_cmp}
-use Rattle.nb_base.specs.Shown.{stored}
+use Rattle.nb_base.specs.Orders.{ByName, ByNumber, name_cmp, saga_key_cmp}
 use Rattle.nb_base.specs.Sound.{IsSoundSaga, IsSoundRecord, IsVersion}
 use Rattle.nb_base.specs.declared.entry.OutboxRow.{OutboxRow}
 use Rattle.nb_base.specs.declared.saga_key.SagaKey.{SagaKey}
@@ -32,7 +31,7 @@ use Rattle.nb_outbox.proofs.FormatLaws.{record_queues}
 use Rattle.nb_store.specs.CellMaps.{spelled_count}
 use Rattle.nb_store.specs.Counts.{count_in}
 use Rattle.nb_store.specs.Kept.{IsKept, IsIndex, IsRecordAt}
-use Rattle.nb_store.specs.Opening.{Part, count, saga, row, handled, cell_of, Fits, IsFitCount, IsFitSaga, IsFitRow, IsFitRecord, IsNumbered, cell_of_count, with_part, IsGood, IsOpen, ReadsCell, ReadsCells, AddsPart, IsDamaged, IsFirstFault, Joined, Joins, no_tables}
+use Rattle.nb_store.specs.Opening.{Part, count, saga, row, handled, cell_of, Fits, IsFitCount, IsFitSaga, IsFitRow, IsFitRecord, IsNumbered, cell_of_count, with_part, IsGood, IsOpen, ReadsCell, ReadsCells, AddsPart, IsDamaged, Joined, Joins, no_tables}
 use Rattle.nb_store.specs.declared.fault.StoreFault.{StoreFault}
 use Rattle.nb_store.specs.declared.fault.StoreFault.TheVariants.{Failed, Damaged, Spent, NoMemory}
 use Rattle.nb_store.specs.declared.parts.Parts.{Parts}

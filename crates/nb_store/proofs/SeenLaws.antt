@@ -1,14 +1,13 @@
 -- What stands at keys.
 use Rattle.std.specs.Prelude.{◌≡◌, ◌≢◌, ◌≤◌, ℕ, ◌+◌, List, [], ◌∷◌, ◌++◌, length, take, slice_get, Bool, true, false, cond, not, ◌&&◌, bytes_eq, Option, Some, None, refl, T}
-use Rattle.std.proofs.Common.{◌∙◌, ap, sym, subst, true≢false, Ordering, Less, Equal, Greater}
+use Rattle.std.proofs.Common.{◌∙◌, ap, sym, true≢false, Ordering, Less, Equal, Greater}
 use Rattle.std.specs.Ordering.{eq_by_cmp, is_lt, is_eq}
-use Rattle.std.specs.Cmp.{Equal-is}
 use Rattle.std.specs.Cmp.Lexicographic.{bytes_decides}
 use Rattle.std.specs.FinMap as map
 use Rattle.std.specs.FinMap.Entries.{find, below_all, is_sorted}
 use Rattle.std.proofs.lemmas.List.{take_all}
 use Rattle.nb_base.proofs.ListLaws.{take_next}
-use Rattle.nb_base.proofs.Maps.{IsExact, names, places, ties, itself}
+use Rattle.nb_base.proofs.Maps.{IsExact, places, ties, itself}
 use Rattle.nb_base.specs.Orders.{ByName, BySaga, saga_key_cmp}
 use Rattle.nb_base.specs.Shown.{Stored, shown, seen, with_id}
 use Rattle.nb_base.specs.declared.saga_key.SagaKey.{SagaKey}

@@ -33,6 +33,13 @@ IsOfApply (Damaged space key) = ⊥
 IsOfApply Spent = ⊥
 IsOfApply NoMemory = Unit {0}
 
+-- or the numbers of commits are used up
+abbrev pub IsOfCommit : StoreFault → Type 0
+IsOfCommit Failed = Unit {0}
+IsOfCommit (Damaged space key) = ⊥
+IsOfCommit Spent = Unit {0}
+IsOfCommit NoMemory = Unit {0}
+
 -- the count of faults never falls, and a call that answers `Failed` has raised it
 pub record IsCounted {T : Type 0} (before now : ℕ) (result : Result T StoreFault) : Type 0 where
   pub later : before ≤ now

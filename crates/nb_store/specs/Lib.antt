@@ -1,4 +1,5 @@
 pub mod Applied
+pub mod Batches
 pub mod CellMaps
 pub mod Kept
 pub mod Calls

@@ -1,5 +1,5 @@
 -- The tables for which cells stand, read one after the other in the order of their places.
-use Rattle.std.specs.Prelude.{◌≡◌, ◌≢◌, ◌≤◌, ℕ, List, [], ◌∷◌, ◌++◌, length, Option, Some, None, Result, Ok, Err}
+use Rattle.std.specs.Prelude.{◌≡◌, ◌≢◌, ◌≤◌, ℕ, List, [], ◌∷◌, ◌++◌, length, Some, None, Result, Ok, Err}
 use Rattle.std.specs.FinMap as map
 use Rattle.nb_base.specs.Orders.{ByName, ByNumber}
 use Rattle.nb_base.specs.Sound.{IsSagaId, IsVersion, limit}

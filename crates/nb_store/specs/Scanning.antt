@@ -1,5 +1,5 @@
 -- The cells of a map in the order of their places, and what the opening of tables makes of them.
-use Rattle.std.specs.Prelude.{◌≡◌, ℕ, List, ◌++◌, Result, Ok, Err}
+use Rattle.std.specs.Prelude.{◌≡◌, ℕ, List, ◌++◌}
 use Rattle.nb_base.specs.declared.tables.Tables.{Tables}
 use Rattle.nb_cells.specs.Cells.{CellMap, Scans}
 use Rattle.nb_cells.specs.declared.cell.Cell.{Cell}

@@ -1,15 +1,25 @@
 //! The tables in memory, with an index of the sagas' ids.
-ghost use Rattle.std.specs.Prelude.{◌≡◌, IfOk, Some, option_copied};
+ghost use Rattle.std.specs.Prelude.{◌≡◌, ◌+◌, IfOk, MatchResult, Some, None, is_ok, true, if◌then◌else◌, option_copied};
 ghost use Rattle.std.specs.FinMap as map;
 ghost use Rattle.nb_base.specs.Shown.{stored, shown, seen, saga_seen, row_seen, with_id};
 ghost use Rattle.nb_base.specs.Sound.{IsSoundTables};
+ghost use Rattle.nb_base.specs.declared.entry.OutboxRow.{OutboxRow};
+ghost use Rattle.nb_outbox.specs.Spelled.{sent_record, IsRecord};
+ghost use Rattle.nb_store.specs.Applied.{Applied, IsCounted, IsOfApply};
+ghost use Rattle.nb_store.specs.Batches.{IsBatch, after_batch};
+ghost use Rattle.nb_store.specs.Calls.{HaveApartPlaces, handled, marked};
 ghost use Rattle.nb_store.specs.Opening.{IsOpen};
 
+use crate::batch::{Batch, attempt, fulfil, undo, written};
+use crate::changes::commit_changes;
+use crate::fault::StoreFault;
+use crate::links::{links_of, touched_ids};
 use crate::parts::Parts;
 use nb_base::{
-    ByName, Copied, Items, Key, Keys, NoMemory, OutboxRow, Read, Reads, Row, SagaKey, SagaRow,
-    Seen, Tables, Text, Value,
+    ByName, Copied, Items, Key, Keys, NoMemory, OutboxRow, Plan, Read, Reads, Row, SagaKey,
+    SagaRow, Seen, Tables, Text, Value,
 };
+use nb_cells::Cells;
 use std::alloc::Global;
 use std::marker::Model;
 
@@ -69,9 +79,18 @@ impl Kept {
 
     /// The record of a message.
     pub fn record(&self, id: &Text) -> Option<&OutboxRow>
-        ensures { option_copied result ≡ map.get self.now.outbox id.now }
+        ensures value { option_copied result ≡ map.get self.now.outbox id.now }
+        ensures sound { IsSoundTables self.now }
     {
         self.tables.outbox.get(id)
+    }
+
+    /// Puts the record of a message, once its messages were sent. It takes no memory.
+    pub fn mark_record(&mut self, id: Text, row: OutboxRow)
+        requires { (r : OutboxRow) × (map.get self.old.outbox id ≡ Some r) × (row ≡ sent_record r) × IsRecord row }
+        ensures { (r : OutboxRow) → map.get self.old.outbox id ≡ Some r → self.new ≡ marked self.old id r }
+    {
+        let _ = self.tables.outbox.insert(id, row);
     }
 
     /// Takes the record of a message out.
@@ -79,6 +98,71 @@ impl Kept {
         ensures { self.new ≡ record self.old { outbox = map.remove self.old.outbox id.now } }
     {
         self.tables.outbox.remove(id);
+    }
+
+    /// All that the commit of a plan needs, by which its message gets this record.
+    pub fn batch(
+        &self,
+        alloc: Global,
+        id: Text,
+        plan: &Plan,
+        endpoint: &Text,
+        row: &OutboxRow,
+    ) -> Result<Batch, NoMemory>
+        requires unrecorded { map.get self.now.outbox id ≡ None }
+        requires apart { HaveApartPlaces plan.now.writes }
+        requires sound { IsSoundTables (handled endpoint.now self.now id plan.now.writes row.now) }
+        requires number { row.now.n ≡ self.now.commits + 1 }
+        ensures batch { IfOk result (λ b. IsBatch self.now b row.now) }
+        ensures after { IfOk result (λ b. after_batch self.now b row.now ≡ handled endpoint.now self.now id plan.now.writes row.now) }
+    {
+        let changes = commit_changes(alloc, plan, endpoint, &id, row)?;
+        let writes = written(alloc, &plan.writes, endpoint, row.n)?;
+        let links = links_of(alloc, &writes)?;
+        let names = touched_ids(alloc, &self.tables.sagas, &writes)?;
+        Ok(Batch {
+            id,
+            writes,
+            links,
+            names,
+            changes,
+        })
+    }
+
+    /// Makes a commit in memory and in the cells, or in neither.
+    pub fn commit<D: Cells>(
+        &mut self,
+        alloc: Global,
+        base: &mut D,
+        batch: Batch,
+        row: OutboxRow,
+    ) -> Result<(), StoreFault>
+        requires { IsBatch self.old batch row }
+        ensures tables { self.new ≡ (if is_ok result then after_batch self.old batch row else self.old) }
+        ensures applied { Applied D.honest D.now D.images D.firm base.old base.new self.old (after_batch self.old batch row) result }
+        ensures answers { MatchResult result (λ x. Unit {0}) IsOfApply }
+        ensures cause { IsCounted (D.count base.old) (D.count base.new) result }
+    {
+        let number = self.tables.commits + 1;
+        let id = batch.id.copy()?;
+        match attempt(
+            alloc,
+            base,
+            &mut self.tables,
+            &mut self.ids,
+            &batch,
+            id,
+            row,
+        ) {
+            Ok(()) => {
+                fulfil(&mut self.tables, &mut self.ids, batch);
+                Ok(())
+            }
+            Err(fault) => {
+                undo(&mut self.tables, &mut self.ids, &batch, number);
+                Err(fault)
+            }
+        }
     }
 
     /// The number of commits.

@@ -2,11 +2,14 @@
 #![tactic(auto)]
 
 mod apply;
+mod batch;
 mod changes;
 mod fault;
 mod id;
 mod kept;
+mod links;
 mod parts;
+mod room;
 mod scan;
 mod store;
 

@@ -1,24 +1,28 @@
 //! The tables over a store of cells.
-ghost use Rattle.std.specs.Prelude.{◌≡◌, ◌≢◌, ◌≤◌, IfOk, IfErr, Some, MatchResult, is_ok, true, if◌then◌else◌, option_copied};
+ghost use Rattle.std.specs.Prelude.{◌≡◌, ◌≢◌, ◌≤◌, ◌+◌, ◌↔◌, IfOk, IfErr, IsOk, Err, Some, None, MatchResult, is_ok, true, false, if◌then◌else◌, option_copied};
 ghost use Rattle.std.specs.FinMap as map;
 ghost use Rattle.nb_base.specs.Shown.{stored, seen};
-ghost use Rattle.nb_base.specs.Sound.{IsSoundTables};
+ghost use Rattle.nb_base.specs.Sound.{IsSoundTables, limit};
 ghost use Rattle.nb_base.specs.declared.entry.OutboxRow.{OutboxRow};
-ghost use Rattle.nb_store.specs.Applied.{Applied, IsCounted, IsOfApply};
+ghost use Rattle.nb_store.specs.Applied.{Applied, IsCounted, IsOfApply, IsOfCommit};
 ghost use Rattle.nb_base.specs.Causes.{Rose};
 ghost use Rattle.nb_cells.specs.Cells.{CellMap};
-ghost use Rattle.nb_store.specs.Calls.{purged};
+ghost use Rattle.nb_store.specs.Calls.{HaveApartPlaces, committed, id_of, marked, purged};
 ghost use Rattle.nb_store.specs.CellMaps.{HasCells};
 ghost use Rattle.nb_store.specs.Scanning.{ScansAll, Opens, Refuses};
-ghost use Rattle.nb_store.specs.declared.fault.StoreFault.TheVariants.{Failed};
+ghost use Rattle.nb_store.specs.declared.fault.StoreFault.TheVariants.{Failed, Spent};
+ghost use Rattle.nb_outbox.specs.Spelled.{sent_record};
 
 use crate::apply::apply;
-use crate::changes::erase_record;
+use crate::changes::{erase_record, mark_changes};
 use crate::fault::StoreFault;
 use crate::kept::Kept;
-use crate::parts::{Parts, Scanned};
+use crate::parts::{LIMIT, Parts, Scanned};
 use crate::scan::scan_all;
-use nb_base::{Copied, Keys, NoMemory, OutboxRow, Reads, Tables, Text};
+use nb_base::{
+    Copied, Envelope, Items, Keys, MESSAGE_ID, Moment, NoMemory, Ops, OutboxRow, Plan, Reads,
+    Tables, Text,
+};
 use nb_cells::Cells;
 use std::alloc::Global;
 
@@ -70,6 +74,25 @@ fn read_cells(alloc: Global, cells: &Scanned) -> Result<Kept, StoreFault>
     }
 }
 
+/// The id of a message.
+fn id_of(incoming: &Envelope) -> &Text
+    ensures { result.now ≡ id_of incoming.now }
+{
+    incoming.header(MESSAGE_ID).unwrap()
+}
+
+/// The record, once its messages were sent.
+fn sent_row(alloc: Global, row: &OutboxRow) -> OutboxRow
+    ensures { result ≡ sent_record row.now }
+{
+    OutboxRow {
+        n: row.n,
+        at: row.at,
+        sent: true,
+        ops: Items::new(alloc),
+    }
+}
+
 impl<D: Cells> Store<D> {
     /// The tables whose cells the store has. It is handed back where it is refused.
     #[tactic(auto, using(crate::proofs::CellLaws::opens_cells))]
@@ -106,6 +129,93 @@ impl<D: Cells> Store<D> {
         match self.tables.record(id) {
             Some(row) => Ok(Some(row.copy()?)),
             None => Ok(None),
+        }
+    }
+
+    /// The next commit, for which there is a number.
+    fn commit_next(
+        &mut self,
+        alloc: Global,
+        id: Text,
+        plan: &Plan,
+        ops: &Ops,
+        endpoint: &Text,
+        m: Moment,
+    ) -> Result<u64, StoreFault>
+        requires unrecorded { map.get self.old.tables.outbox id ≡ None }
+        requires apart { HaveApartPlaces plan.now.writes }
+        requires sound { IsSoundTables (committed endpoint.now self.old.tables id m plan.now.writes ops.now) }
+        ensures number { IfOk result (λ n. n ≡ self.old.tables.commits + 1) }
+        ensures tables { self.new.tables ≡ (if is_ok result then committed endpoint.now self.old.tables id m plan.now.writes ops.now else self.old.tables) }
+        ensures applied { Applied D.honest D.now D.images D.firm self.old.base self.new.base self.old.tables (committed endpoint.now self.old.tables id m plan.now.writes ops.now) result }
+        ensures answers { MatchResult result (λ x. Unit {0}) IsOfApply }
+        ensures cause { IsCounted (D.count self.old.base) (D.count self.new.base) result }
+    {
+        let n = self.tables.commits() + 1;
+        let row = OutboxRow {
+            n,
+            at: m,
+            sent: false,
+            ops: ops.copy()?,
+        };
+        let batch = self.tables.batch(alloc, id, plan, endpoint, &row)?;
+        match self.tables.commit(alloc, &mut self.base, batch, row) {
+            Ok(()) => Ok(n),
+            Err(fault) => Err(fault),
+        }
+    }
+
+    /// Makes the writes of a plan, records the message as handled at `m` with what is to be sent, and answers the number
+    /// of the commit. Numbers end at 2^62.
+    pub fn commit(
+        &mut self,
+        alloc: Global,
+        incoming: &Envelope,
+        plan: &Plan,
+        ops: &Ops,
+        endpoint: &Text,
+        m: Moment,
+    ) -> Result<u64, StoreFault>
+        requires unrecorded { map.get self.old.tables.outbox (id_of incoming.now) ≡ None }
+        requires apart { HaveApartPlaces plan.now.writes }
+        requires sound { self.old.tables.commits ≢ limit → IsSoundTables (committed endpoint.now self.old.tables (id_of incoming.now) m plan.now.writes ops.now) }
+        ensures spent { (result ≡ Err Spent) ↔ (self.old.tables.commits ≡ limit) }
+        ensures spent_base { result ≡ Err Spent → self.new.base ≡ self.old.base }
+        ensures number { IfOk result (λ n. n ≡ self.old.tables.commits + 1) }
+        ensures tables { self.new.tables ≡ (if is_ok result then committed endpoint.now self.old.tables (id_of incoming.now) m plan.now.writes ops.now else self.old.tables) }
+        ensures applied { Applied D.honest D.now D.images D.firm self.old.base self.new.base self.old.tables (committed endpoint.now self.old.tables (id_of incoming.now) m plan.now.writes ops.now) result }
+        ensures answers { MatchResult result (λ x. Unit {0}) IsOfCommit }
+        ensures cause { IsCounted (D.count self.old.base) (D.count self.new.base) result }
+    {
+        if self.tables.commits() == LIMIT {
+            return Err(StoreFault::Spent);
+        }
+        let id = id_of(incoming).copy()?;
+        self.commit_next(alloc, id, plan, ops, endpoint, m)
+    }
+
+    /// Marks the record of a message as sent, and takes its messages out. Where it was sent already nothing is done.
+    pub fn mark(&mut self, alloc: Global, id: &Text) -> Result<(), StoreFault>
+        requires { (r : OutboxRow) × (map.get self.old.tables.outbox id.now ≡ Some r) }
+        ensures tables { (r : OutboxRow) → map.get self.old.tables.outbox id.now ≡ Some r → self.new.tables ≡ (if is_ok result then marked self.old.tables id.now r else self.old.tables) }
+        ensures sent { (r : OutboxRow) → map.get self.old.tables.outbox id.now ≡ Some r → r.sent ≡ true → IsOk result × (self.new.base ≡ self.old.base) }
+        ensures applied { (r : OutboxRow) → map.get self.old.tables.outbox id.now ≡ Some r → r.sent ≡ false → Applied D.honest D.now D.images D.firm self.old.base self.new.base self.old.tables (marked self.old.tables id.now r) result }
+        ensures answers { MatchResult result (λ x. Unit {0}) IsOfApply }
+        ensures cause { IsCounted (D.count self.old.base) (D.count self.new.base) result }
+    {
+        let row = self.tables.record(id).unwrap();
+        if row.sent {
+            return Ok(());
+        }
+        let changes = mark_changes(alloc, id, row)?;
+        let sent = sent_row(alloc, row);
+        let key = id.copy()?;
+        match apply(alloc, &mut self.base, &changes) {
+            Ok(()) => {
+                self.tables.mark_record(key, sent);
+                Ok(())
+            }
+            Err(fault) => Err(fault),
         }
     }
 
