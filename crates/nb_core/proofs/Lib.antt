@@ -2,6 +2,7 @@ pub mod Appending
 pub mod Batches
 pub mod Bridge
 pub mod ByIds
+pub mod Coming
 pub mod Committing
 pub mod Copies
 pub mod Counting

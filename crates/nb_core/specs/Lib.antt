@@ -1,3 +1,4 @@
+pub mod Advanced
 pub mod After
 pub mod Asking
 pub mod Calls

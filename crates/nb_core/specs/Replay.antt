@@ -5,8 +5,8 @@ use Rattle.nb_base.specs.declared.settings.Settings.{Settings}
 use Rattle.nb_core.specs.History.{History, from}
 use Rattle.nb_core.specs.Legal.{Legal, IsWithin}
 use Rattle.nb_core.specs.State.{State, Constants}
-use Rattle.nb_core.specs.declared.replay.ReplayFault.{ReplayFault}
-use Rattle.nb_core.specs.declared.replay.ReplayFault.TheVariants.{Illegal, NoMemory}
+use Rattle.nb_core.specs.declared.replaying.ReplayFault.{ReplayFault}
+use Rattle.nb_core.specs.declared.replaying.ReplayFault.TheVariants.{Illegal, NoMemory}
 
 abbrev pub constants_of : Meaning → Settings → Constants
 constants_of meaning settings = record { meaning = meaning; settings = settings }

@@ -10,9 +10,10 @@ mod free;
 mod history;
 mod laws;
 mod lease;
+mod order;
 mod phase;
 mod phases;
-mod replay;
+mod replaying;
 mod settling;
 mod showing;
 mod staleness;
@@ -32,7 +33,7 @@ pub use laws::{
 };
 pub use phase::Phase;
 pub use phases::{move_after, phase_after, phase_by};
-pub use replay::ReplayFault;
+pub use replaying::{ReplayFault, replay};
 pub use staleness::{conflict, version};
 pub use state::State;
 
