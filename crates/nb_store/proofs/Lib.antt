@@ -7,3 +7,4 @@ pub mod CellLaws
 pub mod BatchLaws
 pub mod LinkLaws
 pub mod CommitLaws
+pub mod LookupLaws

@@ -7,3 +7,4 @@ pub mod Ids
 pub mod Opening
 pub mod Counts
 pub mod Scanning
+pub mod Lookups

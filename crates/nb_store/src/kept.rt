@@ -8,16 +8,18 @@ ghost use Rattle.nb_outbox.specs.Spelled.{sent_record, IsRecord};
 ghost use Rattle.nb_store.specs.Applied.{Applied, IsCounted, IsOfApply};
 ghost use Rattle.nb_store.specs.Batches.{IsBatch, after_batch};
 ghost use Rattle.nb_store.specs.Calls.{HaveApartPlaces, handled, marked};
+ghost use Rattle.nb_store.specs.Lookups.{purgeable};
 ghost use Rattle.nb_store.specs.Opening.{IsOpen};
 
 use crate::batch::{Batch, attempt, fulfil, undo, written};
 use crate::changes::commit_changes;
 use crate::fault::StoreFault;
 use crate::links::{links_of, touched_ids};
+use crate::lookups::purgeable;
 use crate::parts::Parts;
 use nb_base::{
-    ByName, Copied, Items, Key, Keys, NoMemory, OutboxRow, Plan, Read, Reads, Row, SagaKey,
-    SagaRow, Seen, Tables, Text, Value,
+    ByName, Copied, Items, Key, Keys, Moment, Names, NoMemory, OutboxRow, Plan, Read, Reads, Row,
+    SagaKey, SagaRow, Seen, Tables, Text, Value,
 };
 use nb_cells::Cells;
 use std::alloc::Global;
@@ -173,6 +175,34 @@ impl Kept {
         self.tables.commits
     }
 
+    /// A copy of the tables.
+    pub fn all(&self) -> Result<Tables, NoMemory>
+        ensures { IfOk result (λ t. t ≡ self.now) }
+    {
+        self.tables.copy()
+    }
+
+    /// The ids of the records that may go, by their bytes.
+    pub fn purgeable(&self, alloc: Global, retention: u64, m: Moment) -> Result<Names, NoMemory>
+        ensures { IfOk result (λ names. names ≡ purgeable self.now retention m) }
+    {
+        purgeable(alloc, &self.tables.outbox, retention, m)
+    }
+
+    /// The saga at a place.
+    pub fn saga(&self, place: &SagaKey) -> Option<&SagaRow>
+        ensures { option_copied result ≡ map.get self.now.sagas place.now }
+    {
+        self.tables.sagas.get(place)
+    }
+
+    /// The row under a name.
+    pub fn row(&self, name: &Text) -> Option<&Row>
+        ensures { option_copied result ≡ map.get self.now.rows name.now }
+    {
+        self.tables.rows.get(name)
+    }
+
     /// The tables, with no copy.
     pub fn into_tables(self) -> Tables
         ensures value { result ≡ self }
@@ -194,7 +224,7 @@ impl Kept {
     }
 
     /// The saga of a type that has an id.
-    fn saga_with(&self, saga: &Text, id: &Text) -> Option<&SagaRow>
+    pub fn saga_with(&self, saga: &Text, id: &Text) -> Option<&SagaRow>
         ensures { option_copied result ≡ with_id saga.now id.now (map.entries self.now.sagas) }
     {
         let Some(place) = self.ids.get(id) else {

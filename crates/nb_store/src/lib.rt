@@ -8,6 +8,7 @@ mod fault;
 mod id;
 mod kept;
 mod links;
+mod lookups;
 mod parts;
 mod room;
 mod scan;

@@ -1,7 +1,7 @@
 //! The tables over a store of cells.
-ghost use Rattle.std.specs.Prelude.{◌≡◌, ◌≢◌, ◌≤◌, ◌+◌, ◌↔◌, IfOk, IfErr, IsOk, Err, Some, None, MatchResult, is_ok, true, false, if◌then◌else◌, option_copied};
+ghost use Rattle.std.specs.Prelude.{◌≡◌, ◌≢◌, ◌≤◌, ◌+◌, ◌↔◌, IsTrue, IfOk, IfErr, IsOk, Err, Some, None, MatchResult, is_ok, true, false, if◌then◌else◌, option_copied};
 ghost use Rattle.std.specs.FinMap as map;
-ghost use Rattle.nb_base.specs.Shown.{stored, seen};
+ghost use Rattle.nb_base.specs.Shown.{stored, seen, with_id};
 ghost use Rattle.nb_base.specs.Sound.{IsSoundTables, limit};
 ghost use Rattle.nb_base.specs.declared.entry.OutboxRow.{OutboxRow};
 ghost use Rattle.nb_store.specs.Applied.{Applied, IsCounted, IsOfApply, IsOfCommit};
@@ -9,6 +9,7 @@ ghost use Rattle.nb_base.specs.Causes.{Rose};
 ghost use Rattle.nb_cells.specs.Cells.{CellMap};
 ghost use Rattle.nb_store.specs.Calls.{HaveApartPlaces, committed, id_of, marked, purged};
 ghost use Rattle.nb_store.specs.CellMaps.{HasCells};
+ghost use Rattle.nb_store.specs.Lookups.{CanGo, purgeable};
 ghost use Rattle.nb_store.specs.Scanning.{ScansAll, Opens, Refuses};
 ghost use Rattle.nb_store.specs.declared.fault.StoreFault.TheVariants.{Failed, Spent};
 ghost use Rattle.nb_outbox.specs.Spelled.{sent_record};
@@ -20,10 +21,11 @@ use crate::kept::Kept;
 use crate::parts::{LIMIT, Parts, Scanned};
 use crate::scan::scan_all;
 use nb_base::{
-    Copied, Envelope, Items, Keys, MESSAGE_ID, Moment, NoMemory, Ops, OutboxRow, Plan, Reads,
-    Tables, Text,
+    Copied, Envelope, Items, Keys, MESSAGE_ID, Moment, Names, NoMemory, Ops, OutboxRow, Plan,
+    Reads, Row, SagaKey, SagaRow, Tables, Text,
 };
 use nb_cells::Cells;
+use nb_outbox::is_purgeable;
 use std::alloc::Global;
 
 /// Tables, and the store of their cells. They are kept in memory, so that what reads them makes no call of the store.
@@ -130,6 +132,67 @@ impl<D: Cells> Store<D> {
             Some(row) => Ok(Some(row.copy()?)),
             None => Ok(None),
         }
+    }
+
+    /// The record of a message, with no copy.
+    pub fn record(&self, id: &Text) -> Option<&OutboxRow>
+        ensures value { option_copied result ≡ map.get self.now.tables.outbox id.now }
+        ensures sound { IsSoundTables self.now.tables }
+    {
+        self.tables.record(id)
+    }
+
+    /// The number of commits.
+    pub fn commits(&self) -> u64
+        ensures value { result ≡ self.now.tables.commits }
+        ensures sound { IsSoundTables self.now.tables }
+    {
+        self.tables.commits()
+    }
+
+    /// The saga at a place, with no copy.
+    pub fn saga(&self, place: &SagaKey) -> Option<&SagaRow>
+        ensures { option_copied result ≡ map.get self.now.tables.sagas place.now }
+    {
+        self.tables.saga(place)
+    }
+
+    /// The saga of a type that has an id, with no copy.
+    pub fn saga_with(&self, saga: &Text, id: &Text) -> Option<&SagaRow>
+        ensures { option_copied result ≡ with_id saga.now id.now (map.entries self.now.tables.sagas) }
+    {
+        self.tables.saga_with(saga, id)
+    }
+
+    /// The row under a name, with no copy.
+    pub fn row(&self, name: &Text) -> Option<&Row>
+        ensures { option_copied result ≡ map.get self.now.tables.rows name.now }
+    {
+        self.tables.row(name)
+    }
+
+    /// Whether the record of a message was sent, and has stood for `retention` seconds at the moment `m`.
+    pub fn can_purge(&self, id: &Text, retention: u64, m: Moment) -> bool
+        ensures { IsTrue result ↔ CanGo self.now.tables retention m id.now }
+    {
+        match self.tables.record(id) {
+            Some(row) => is_purgeable(row, retention, m),
+            None => false,
+        }
+    }
+
+    /// The ids of the records that may be purged, by their bytes.
+    pub fn purgeable(&self, alloc: Global, retention: u64, m: Moment) -> Result<Names, NoMemory>
+        ensures { IfOk result (λ names. names ≡ purgeable self.now.tables retention m) }
+    {
+        self.tables.purgeable(alloc, retention, m)
+    }
+
+    /// A copy of all that the tables hold.
+    pub fn all(&self) -> Result<Tables, NoMemory>
+        ensures { IfOk result (λ t. t ≡ self.now.tables) }
+    {
+        self.tables.all()
     }
 
     /// The next commit, for which there is a number.
