@@ -2,5 +2,7 @@ mod Arrays
 mod Firsts
 mod LeastLaws
 pub mod Least
+mod Searched
 mod Tables
+mod Unrouted
 mod SoundTables

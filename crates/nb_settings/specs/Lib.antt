@@ -1,4 +1,5 @@
 pub mod Files
 pub mod Faults
+pub mod Missing
 pub mod Unknown
 pub mod Values

@@ -5,16 +5,21 @@ ghost use Rattle.toml.specs.View.{view};
 ghost use Rattle.nb_settings.specs.Faults.{unknown_faults};
 ghost use Rattle.nb_settings.specs.Faults as in_table;
 ghost use Rattle.nb_settings.specs.Files.{faults_of, root_of, toml_of, Reads, ReadsSettings};
+ghost use Rattle.nb_settings.specs.Missing.{AreRouted, faults_for};
 ghost use Rattle.nb_settings.specs.Unknown.{least, others_of};
+ghost use Rattle.nb_script.specs.Tree.{script};
+ghost use Rattle.nb_check.specs.Sends.{sends};
 
+use crate::missing::first_unrouted;
 use crate::names::{endpoint_in, error_in};
 use crate::numbers::{retention_in, retries_in};
 use crate::policies::policies_in;
-use crate::refusal::{SettingsFault, SettingsKind, SettingsRefusal, fault};
+use crate::refusal::{SettingsFault, SettingsKind, SettingsRefusal, fault, fault_under};
 use crate::routes::routes_in;
 use crate::subscribers::subscribers_in;
 use crate::unknown::unknown_in;
 use nb_base::{NoMemory, Settings};
+use nb_check::Checked;
 use std::alloc::Global;
 use toml::Value;
 
@@ -70,8 +75,8 @@ fn settings_at(alloc: Global, root: &Value) -> Result<Settings, SettingsRefusal>
     })
 }
 
-/// The settings that the bytes of a file say, or the first bad key.
-pub fn read_settings(alloc: Global, bytes: &[u8]) -> Result<Settings, SettingsRefusal>
+/// The settings of a file, or the first bad key, whatever the script sends.
+fn settings_in(alloc: Global, bytes: &[u8]) -> Result<Settings, SettingsRefusal>
     ensures { ReadsSettings result (faults_of bytes.now) (root_of bytes.now) }
 {
     if bytes.len() > MOST_BYTES {
@@ -80,5 +85,21 @@ pub fn read_settings(alloc: Global, bytes: &[u8]) -> Result<Settings, SettingsRe
     match table_of(alloc, bytes)? {
         Some(root) => settings_at(alloc, &root),
         None => Err(fault(alloc, "", SettingsKind::NotToml)),
+    }
+}
+
+/// The settings that the bytes of a file say for a script, or the first bad key.
+pub fn read_settings(
+    alloc: Global,
+    bytes: &[u8],
+    checked: &Checked,
+) -> Result<Settings, SettingsRefusal>
+    ensures reads { ReadsSettings result (faults_for bytes.now (sends (script checked.now))) (root_of bytes.now) }
+    ensures routed { IfOk result (λ settings. AreRouted settings.routes (sends (script checked.now))) }
+{
+    let settings = settings_in(alloc, bytes)?;
+    match first_unrouted(&settings, checked.sends()) {
+        Some(name) => Err(fault_under(alloc, "routes.", name.as_str(), SettingsKind::NoRoute)),
+        None => Ok(settings),
     }
 }

@@ -4,6 +4,7 @@
 mod file;
 mod group;
 mod laws;
+mod missing;
 mod names;
 mod numbers;
 mod policies;
@@ -16,6 +17,7 @@ mod unknown;
 
 pub use file::read_settings;
 pub use laws::law_least;
+pub use missing::missing_route;
 pub use refusal::{SettingsFault, SettingsKind, SettingsRefusal};
 
 #[cfg(test)]
