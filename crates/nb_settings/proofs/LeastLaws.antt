@@ -1,18 +1,17 @@
 -- The least of some keys is one of them, and none of them comes before it.
-use Rattle.std.proofs.Common.{◌≡◌, ◌∙◌, ℕ, List, [], ◌∷◌, Bool, true, false, cond, ◌||◌, Some, Ordering, Less, Equal, Greater, nat_cmp, bytes_eq, refl, ap, sym}
+use Rattle.std.proofs.Common.{◌≡◌, ◌∙◌, ℕ, List, [], ◌∷◌, Bool, true, false, cond, ◌||◌, Some, Ordering, Less, Equal, Greater, nat_cmp, bytes_eq, refl, ap}
 use Rattle.std.specs.Prelude.{IsTrue}
 use Rattle.std.specs.BTreeMap.Comparable.{le_lt_trans}
 use Rattle.std.specs.Cmp.Lexicographic.{slice_cmp, texts_ties}
-use Rattle.std.specs.List.{list_any}
 use Rattle.std.specs.Ordering.{is_eq, is_le, match_ordering, ordering_reverse}
 use Rattle.std.proofs.lemmas.Cmp.{nat_list_cmp_total, tied_itself}
 use Rattle.nb_base.specs.SettingsRules.{is_before}
-use Rattle.nb_settings.specs.Unknown.{FindsLeast, IsLeastOf, least, least_with, lesser}
+use Rattle.nb_settings.specs.Unknown.{FindsLeast, IsLeastOf, least_with, lesser}
 
 itself : (a : List ℕ) → slice_cmp nat_cmp a a ≡ Equal
 itself a = tied_itself nat_list_cmp_total a
 
-equal_itself : (a : List ℕ) → bytes_eq a a ≡ true
+pub equal_itself : (a : List ℕ) → bytes_eq a a ≡ true
 equal_itself a = texts_ties a a ∙ ap is_eq (itself a)
 
 le_from_before : (o : Ordering) → match_ordering o true false false ≡ true → IsTrue (is_le o)

@@ -2,6 +2,7 @@ mod Arrays
 mod Firsts
 mod LeastLaws
 pub mod Least
+mod Numbered
 mod Searched
 mod Tables
 mod Unrouted

@@ -1,5 +1,5 @@
 -- What a binary search finds among routes whose names rise.
-use Rattle.std.proofs.Common.{◌≡◌, ◌∙◌, ℕ, zero, suc, ◌+◌, ◌<◌, ◌≤◌, List, [], ◌∷◌, Bool, true, false, cond, length, get_or, map, Result, Ok, Err, Some, Ordering, Less, Equal, Greater, is_eq, nat_cmp, bytes_eq, refl, ap, inl, inr, arith}
+use Rattle.std.proofs.Common.{◌≡◌, ◌∙◌, ℕ, zero, suc, ◌+◌, ◌<◌, List, [], ◌∷◌, Bool, true, false, cond, length, get_or, map, Result, Ok, Err, Some, Ordering, Less, Equal, Greater, is_eq, nat_cmp, bytes_eq, refl, ap, inl, inr, arith}
 use Rattle.std.specs.Prelude.{◌≢◌, find, is_some, is_ok}
 use Rattle.std.specs.Cmp.Lexicographic.{slice_cmp, texts_ties}
 use Rattle.std.specs.List.{HoldsAt}

@@ -1,7 +1,6 @@
 -- The first message that has no route.
-use Rattle.std.proofs.Common.{◌≡◌, ◌∙◌, ℕ, zero, suc, List, [], ◌∷◌, ◌++◌, Bool, true, false, not, cond, Option, Some, None, bytes_eq, slice_get, codes, map, refl, ap, sym, arith}
+use Rattle.std.proofs.Common.{◌≡◌, ◌∙◌, ℕ, zero, suc, List, [], ◌∷◌, ◌++◌, Bool, true, false, not, cond, Option, Some, None, bytes_eq, slice_get, codes, map, refl, sym}
 use Rattle.std.specs.Prelude.{position}
-use Rattle.nb_base.specs.Meanings.{IsAmong}
 use Rattle.nb_base.specs.declared.route.Route.{Route}
 use Rattle.nb_settings.specs.Faults.{bad}
 use Rattle.nb_settings.specs.Files.{IsFirst, faults_of, first, root_of}
@@ -27,7 +26,7 @@ unrouted-none routes (name ∷ sent) none =
     let (here, more) = none_by (has_route routes name) name (first_unrouted routes sent) none in
     rw here (unrouted-none routes sent more)
 
-some_equal : (a b : List ℕ) → Some a ≡ Some b → a ≡ b
+pub some_equal : (a b : List ℕ) → Some a ≡ Some b → a ≡ b
 some_equal a b is = cc
 
 routed_at : (routes : List Route) (sent : List (List ℕ)) → first_unrouted routes sent ≡ None → (name : List ℕ) (i : ℕ) → slice_get sent i ≡ Some name → has_route routes name ≡ true

@@ -1,10 +1,10 @@
 //! Messages that a script sends and that have no route.
-ghost use Rattle.std.specs.Prelude.{◌≡◌, ◌<◌, IfSome, bytes_eq, length, position};
+ghost use Rattle.std.specs.Prelude.{◌≡◌, ◌<◌, IfSome, None, bytes_eq, length, position};
 ghost use Rattle.std.specs.Option.{option_copied};
 ghost use Rattle.nb_script.specs.Tree.{script};
 ghost use Rattle.nb_check.specs.Checks.{declared_names};
 ghost use Rattle.nb_check.specs.Sends.{sends};
-ghost use Rattle.nb_settings.specs.Missing.{first_unrouted, has_route, missing_route_of};
+ghost use Rattle.nb_settings.specs.Missing.{AreRouted, first_unrouted, has_route, missing_route_of};
 
 use nb_base::{Names, Settings, Text};
 use nb_check::Checked;
@@ -24,7 +24,9 @@ fn has_route(settings: &Settings, name: &Text) -> bool
 pub(crate) fn first_unrouted<'a>(settings: &Settings, sent: &'a Names) -> Option<&'a Text>
     ensures { option_copied result ≡ first_unrouted settings.now.routes sent.now }
 {
-    sent.as_slice().iter().find(|name| !has_route(settings, name))
+    sent.as_slice()
+        .iter()
+        .find(|name| !has_route(settings, name))
 }
 
 /// The place of a name among the names.
@@ -48,7 +50,8 @@ fn number_of(name: &Text, names: &Names) -> Option<u32>
 
 /// The number, among the declared messages, of the first message sent that has no route.
 pub fn missing_route(settings: &Settings, checked: &Checked) -> Option<u32>
-    ensures { result ≡ missing_route_of settings.now.routes (sends (script checked.now)) (declared_names (script checked.now)) }
+    ensures all_routed { result ≡ None → AreRouted settings.now.routes (sends (script checked.now)) }
+    ensures number { result ≡ missing_route_of settings.now.routes (sends (script checked.now)) (declared_names (script checked.now)) }
 {
     match first_unrouted(settings, checked.sends()) {
         None => None,

@@ -1,5 +1,7 @@
-use crate::{SettingsKind, SettingsRefusal, read_settings};
+use crate::{SettingsKind, SettingsRefusal, missing_route, read_settings};
 use nb_base::{Action, NoMemory, Settings};
+use nb_check::{Checked, check};
+use nb_script::parse;
 use std::alloc::Global;
 use std::test::Fail;
 
@@ -55,9 +57,21 @@ fn shown_settings(alloc: Global, s: &Settings) -> Result<String, NoMemory> {
     Ok(line)
 }
 
-// The settings, or the bad key and its kind.
-fn shown(alloc: Global, bytes: &[u8]) -> Result<String, NoMemory> {
-    match read_settings(alloc, bytes) {
+// The checked script of a text.
+fn checked(alloc: Global, text: &str) -> Result<Checked, NoMemory> {
+    let Ok(script) = parse(alloc, text.as_bytes()) else {
+        return Err(NoMemory);
+    };
+    match check(alloc, script) {
+        Ok(checked) => Ok(checked),
+        Err(_) => Err(NoMemory),
+    }
+}
+
+// The settings for a script, or the bad key and its kind.
+fn shown_for(alloc: Global, script: &str, bytes: &[u8]) -> Result<String, NoMemory> {
+    let checked = checked(alloc, script)?;
+    match read_settings(alloc, bytes, &checked) {
         Ok(settings) => shown_settings(alloc, &settings),
         Err(SettingsRefusal::Fault(fault)) => {
             let line = format!(in alloc; "{}: {}", fault.key.as_str(), shown_kind(fault.kind))?;
@@ -67,7 +81,12 @@ fn shown(alloc: Global, bytes: &[u8]) -> Result<String, NoMemory> {
     }
 }
 
-// What two lines after the endpoint's name give.
+// The same for a script that sends nothing.
+fn shown(alloc: Global, bytes: &[u8]) -> Result<String, NoMemory> {
+    shown_for(alloc, "", bytes)
+}
+
+// What some lines after the endpoint's name give.
 fn shown_with(alloc: Global, rest: &str) -> Result<String, NoMemory> {
     let text = format!(in alloc; "endpoint = \"Sales\"\n{rest}")?;
     shown(alloc, text.as_bytes())
@@ -233,6 +252,72 @@ fn the_least_unknown_key_is_told(rt: HostRuntime) -> Result<(), Fail> {
     assert_eq!(rt;
         shown_with(alloc, "zz = 1\nrecoverability.x = 1\npolicies.X = 1")?.as_str(),
         "policies.X: WrongKind"
+    );
+    Ok(())
+}
+
+const SHOP: &str = "message Order { } message Charge { } message Told { }
+handler Told { local Order { }; publish Order { }; }
+handler Order { send Charge { }; send Order { }; }
+";
+
+#[test]
+fn a_missing_route_is_told(rt: HostRuntime) -> Result<(), Fail> {
+    let alloc = rt.alloc();
+    assert_eq!(rt;
+        shown_for(alloc, SHOP, b"endpoint = \"Sales\"")?.as_str(),
+        "routes.Charge: NoRoute"
+    );
+    assert_eq!(rt;
+        shown_for(
+            alloc,
+            SHOP,
+            b"endpoint = \"Sales\"\nroutes.Charge = \"Billing\""
+        )?
+        .as_str(),
+        "routes.Order: NoRoute"
+    );
+    assert_eq!(rt;
+        shown_for(
+            alloc,
+            SHOP,
+            b"endpoint = \"Sales\"\nroutes.Order = \"Web\"\nroutes.Charge = \"Billing\""
+        )?
+        .as_str(),
+        "Sales error 5 3 10 604800 >Charge=Billing >Order=Web"
+    );
+    assert_eq!(rt;
+        shown_for(alloc, SHOP, b"endpoint = \"Sales\"\nzz = 1")?.as_str(),
+        "zz: Unknown"
+    );
+    Ok(())
+}
+
+// The number of the first message of a script that has no route in these settings.
+fn missing(alloc: Global, script: &str, bytes: &[u8]) -> Result<Option<u32>, NoMemory> {
+    let nothing = checked(alloc, "")?;
+    let script = checked(alloc, script)?;
+    match read_settings(alloc, bytes, &nothing) {
+        Ok(settings) => Ok(missing_route(&settings, &script)),
+        Err(_) => Err(NoMemory),
+    }
+}
+
+#[test]
+fn a_missing_route_has_a_number(rt: HostRuntime) -> Result<(), Fail> {
+    let alloc = rt.alloc();
+    assert_eq!(rt; missing(alloc, SHOP, b"endpoint = \"Sales\""), Ok(Some(1)));
+    assert_eq!(rt;
+        missing(alloc, SHOP, b"endpoint = \"Sales\"\nroutes.Charge = \"B\""),
+        Ok(Some(0))
+    );
+    assert_eq!(rt;
+        missing(
+            alloc,
+            SHOP,
+            b"endpoint = \"Sales\"\nroutes.Charge = \"B\"\nroutes.Order = \"B\""
+        ),
+        Ok(None)
     );
     Ok(())
 }

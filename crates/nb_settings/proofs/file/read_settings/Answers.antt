@@ -7,11 +7,11 @@ use Rattle.nb_settings.proofs.file.read_settings.Goals as goal
 pub returns-in-Some-clause-reads : goal.returns-in-Some-clause-reads
 returns-in-Some-clause-reads c =
     fault_for c.fault_under.result c.args.bytes.now c.in_ok-settings.settings.routes (sends (script c.args.checked.now)) c.in-Some.name.now
-    c.in_ok-settings.ensures.0 c.in_ok-settings.ensures.1.routes (rw c.sends.ensures at c.in-Some.ensures) (rw c.as_str.ensures.value at c.fault_under.ensures)
+    c.in_ok-settings.ensures.0 c.in_ok-settings.ensures.1.routes (rw c.sends.ensures.value at c.in-Some.ensures) (rw c.as_str.ensures.value at c.fault_under.ensures)
 
 pub returns-in-None-clause-reads : goal.returns-in-None-clause-reads
 returns-in-None-clause-reads c =
-    (no_fault_for c.args.bytes.now c.in_ok-settings.settings.routes (sends (script c.args.checked.now)) c.in_ok-settings.ensures.0 c.in_ok-settings.ensures.1.routes (rw c.sends.ensures at c.in-None.ensures), c.in_ok-settings.ensures.1)
+    (no_fault_for c.args.bytes.now c.in_ok-settings.settings.routes (sends (script c.args.checked.now)) c.in_ok-settings.ensures.0 c.in_ok-settings.ensures.1.routes (rw c.sends.ensures.value at c.in-None.ensures), c.in_ok-settings.ensures.1)
 
 pub returns-in-None-clause-routed : goal.returns-in-None-clause-routed
-returns-in-None-clause-routed c = all_routed c.in_ok-settings.settings.routes (sends (script c.args.checked.now)) (sym (rw c.sends.ensures at c.in-None.ensures))
+returns-in-None-clause-routed c = all_routed c.in_ok-settings.settings.routes (sends (script c.args.checked.now)) (sym (rw c.sends.ensures.value at c.in-None.ensures))
