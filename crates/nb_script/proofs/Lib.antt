@@ -16,3 +16,8 @@ pub mod LexTurns
 pub mod Digits
 pub mod Parsed
 pub mod Rereading
+pub mod Again
+pub mod AgainParts
+pub mod AgainStatements
+pub mod AgainItems
+pub mod Reprinting
