@@ -5,9 +5,8 @@ use Rattle.nb_base.specs.declared.route.Route.{Route}
 use Rattle.nb_settings.specs.Faults.{bad}
 use Rattle.nb_settings.specs.Files.{IsFirst, faults_of, first, root_of}
 use Rattle.nb_settings.specs.Missing.{AreRouted, faults_for, first_unrouted, has_route, missing_route_of, route_faults_of, unrouted}
-use Rattle.nb_settings.specs.Values.{members_of, routes_of}
+use Rattle.nb_settings.specs.Values.{routes_at}
 use Rattle.nb_settings.proofs.Tables.{IsFirst-after}
-use Rattle.toml.specs.Data.{get}
 use Rattle.nb_settings.specs.declared.refusal.SettingsKind.TheVariants.{NoRoute}
 use Rattle.nb_settings.specs.declared.refusal.SettingsRefusal.{SettingsRefusal}
 use Rattle.nb_settings.specs.declared.refusal.SettingsRefusal.TheVariants.{Fault, NoMemory}
@@ -59,16 +58,12 @@ pub IsFirst-unrouted : (refusal : SettingsRefusal) (routes : List Route) (sent :
 IsFirst-unrouted NoMemory routes sent name is fault = tt
 IsFirst-unrouted (Fault f) routes sent name is fault = first-unrouted routes sent name is ∙ fault
 
--- the routes of a file
-abbrev routes_in : List ℕ → List Route
-routes_in bytes = routes_of (members_of (get (codes "routes") (root_of bytes)))
-
-pub no_fault_for : (bytes : List ℕ) (routes : List Route) (sent : List (List ℕ)) → faults_of bytes ≡ [] → routes ≡ routes_in bytes → None ≡ first_unrouted routes sent → faults_for bytes sent ≡ []
+pub no_fault_for : (bytes : List ℕ) (routes : List Route) (sent : List (List ℕ)) → faults_of bytes ≡ [] → routes ≡ routes_at (root_of bytes) → None ≡ first_unrouted routes sent → faults_for bytes sent ≡ []
 no_fault_for bytes routes sent none are routed =
-    let missing : unrouted (routes_in bytes) sent ≡ [] = unrouted-none (routes_in bytes) sent (rw are at (sym routed)) in
+    let missing : unrouted (routes_at (root_of bytes)) sent ≡ [] = unrouted-none (routes_at (root_of bytes)) sent (rw are at (sym routed)) in
     rw (none, missing) refl
 
-pub fault_for : (refusal : SettingsRefusal) (bytes : List ℕ) (routes : List Route) (sent : List (List ℕ)) (name : List ℕ) → faults_of bytes ≡ [] → routes ≡ routes_in bytes → Some name ≡ first_unrouted routes sent
+pub fault_for : (refusal : SettingsRefusal) (bytes : List ℕ) (routes : List Route) (sent : List (List ℕ)) (name : List ℕ) → faults_of bytes ≡ [] → routes ≡ routes_at (root_of bytes) → Some name ≡ first_unrouted routes sent
     → IsFirst (bad (codes "routes." ++ name) NoRoute) refusal → IsFirst (faults_for bytes sent) refusal
 fault_for refusal bytes routes sent name none are is fault =
-    IsFirst-after refusal (faults_of bytes) (route_faults_of (routes_in bytes) sent) none (IsFirst-unrouted refusal (routes_in bytes) sent name (rw are at (sym is)) fault)
+    IsFirst-after refusal (faults_of bytes) (route_faults_of (routes_at (root_of bytes)) sent) none (IsFirst-unrouted refusal (routes_at (root_of bytes)) sent name (rw are at (sym is)) fault)

@@ -4,7 +4,7 @@ use Rattle.std.specs.List.{list_all}
 use Rattle.toml.specs.Data.{Data, Items, no_items, item, Members, no_members, member, get, as_str, as_integer, as_array, as_table}
 use Rattle.nb_base.specs.SettingsRules.{is_endpoint, is_queue, differ}
 use Rattle.nb_settings.specs.Unknown.{least, others_of}
-use Rattle.nb_settings.specs.Values.{text_or, members_of, texts_of, action_of}
+use Rattle.nb_settings.specs.Values.{action_of, endpoint_at, members_of, texts_of}
 use Rattle.nb_settings.specs.declared.refusal.SettingsFault.{SettingsFault}
 use Rattle.nb_settings.specs.declared.refusal.SettingsKind.{SettingsKind}
 use Rattle.nb_settings.specs.declared.refusal.SettingsKind.TheVariants.{Missing, WrongKind, OutOfRange, SameQueue, Repeated, Unknown}
@@ -89,21 +89,39 @@ subscriber_faults (member name value rest) = array_faults (codes "subscribers." 
 
 abbrev pub policy_faults : Members → List SettingsFault
 policy_faults no_members = []
-policy_faults (member name value rest) = text_faults (codes "policies." ++ name) (λ text. is_some (action_of text)) (as_str value) ++ policy_faults rest
+policy_faults (member name value rest) =
+    text_faults (codes "policies." ++ name) (λ text. is_some (action_of text)) (as_str value) ++ policy_faults rest
 
 -- the least key that means nothing
 abbrev pub unknown_faults : Option (List ℕ) → List SettingsFault
 unknown_faults None = []
 unknown_faults (Some key) = bad key Unknown
 
--- all that is at fault in a table
+-- what is at fault under the keys of a table
+abbrev pub endpoint_faults_at : Data → List SettingsFault
+endpoint_faults_at root = endpoint_faults (get (codes "endpoint") root)
+
+abbrev pub error_faults_at : List ℕ → Data → List SettingsFault
+error_faults_at endpoint root = error_faults endpoint (get (codes "error") root)
+
+abbrev pub retry_faults_at : Data → List SettingsFault
+retry_faults_at root = group_faults (codes "recoverability") retry_faults (get (codes "recoverability") root)
+
+abbrev pub outbox_faults_at : Data → List SettingsFault
+outbox_faults_at root = group_faults (codes "outbox") outbox_faults (get (codes "outbox") root)
+
+abbrev pub route_faults_at : Data → List SettingsFault
+route_faults_at root = group_faults (codes "routes") (λ group. route_faults (members_of (Some group))) (get (codes "routes") root)
+
+abbrev pub subscriber_faults_at : Data → List SettingsFault
+subscriber_faults_at root =
+    group_faults (codes "subscribers") (λ group. subscriber_faults (members_of (Some group))) (get (codes "subscribers") root)
+
+abbrev pub policy_faults_at : Data → List SettingsFault
+policy_faults_at root = group_faults (codes "policies") (λ group. policy_faults (members_of (Some group))) (get (codes "policies") root)
+
+-- all that is at fault in a table, in the order of its keys
 abbrev pub faults_of : Data → List SettingsFault
 faults_of root =
-    endpoint_faults (get (codes "endpoint") root)
-    ++ error_faults (text_or [] (get (codes "endpoint") root)) (get (codes "error") root)
-    ++ group_faults (codes "recoverability") retry_faults (get (codes "recoverability") root)
-    ++ group_faults (codes "outbox") outbox_faults (get (codes "outbox") root)
-    ++ group_faults (codes "routes") (λ group. route_faults (members_of (Some group))) (get (codes "routes") root)
-    ++ group_faults (codes "subscribers") (λ group. subscriber_faults (members_of (Some group))) (get (codes "subscribers") root)
-    ++ group_faults (codes "policies") (λ group. policy_faults (members_of (Some group))) (get (codes "policies") root)
-    ++ unknown_faults (least (others_of root))
+    endpoint_faults_at root ++ error_faults_at (endpoint_at root) root ++ retry_faults_at root ++ outbox_faults_at root
+    ++ route_faults_at root ++ subscriber_faults_at root ++ policy_faults_at root ++ unknown_faults (least (others_of root))

@@ -4,10 +4,9 @@ use Rattle.std.specs.List.{filter}
 use Rattle.nb_base.specs.Meanings.{IsAmong}
 use Rattle.nb_base.specs.declared.route.Route.{Route}
 use Rattle.nb_settings.specs.Files.{faults_of, root_of}
-use Rattle.nb_settings.specs.Values.{members_of, routes_of}
+use Rattle.nb_settings.specs.Values.{routes_at}
 use Rattle.nb_settings.specs.declared.refusal.SettingsFault.{SettingsFault}
 use Rattle.nb_settings.specs.declared.refusal.SettingsKind.TheVariants.{NoRoute}
-use Rattle.toml.specs.Data.{get}
 
 -- the message has a route
 abbrev pub has_route : List Route → List ℕ → Bool
@@ -31,7 +30,7 @@ route_faults_of routes sent = map (λ name. record { key = codes "routes." ++ na
 
 -- all that is at fault in a file, for a script that sends these messages
 abbrev pub faults_for : List ℕ → List (List ℕ) → List SettingsFault
-faults_for bytes sent = faults_of bytes ++ route_faults_of (routes_of (members_of (get (codes "routes") (root_of bytes)))) sent
+faults_for bytes sent = faults_of bytes ++ route_faults_of (routes_at (root_of bytes)) sent
 
 -- every message that is sent has a route
 abbrev pub AreRouted : List Route → List (List ℕ) → Type 0

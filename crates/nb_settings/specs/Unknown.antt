@@ -9,7 +9,9 @@ use Rattle.nb_settings.specs.declared.group.Group.TheVariants.{Top, Recoverabili
 
 -- whether a key of the group means something
 abbrev pub knows : Group → List ℕ → Bool
-knows Top key = list_any (bytes_eq key) (codes "endpoint" ∷ codes "error" ∷ codes "recoverability" ∷ codes "outbox" ∷ codes "routes" ∷ codes "subscribers" ∷ codes "policies" ∷ [])
+knows Top key =
+    list_any (bytes_eq key) (codes "endpoint" ∷ codes "error" ∷ codes "recoverability" ∷ codes "outbox"
+    ∷ codes "routes" ∷ codes "subscribers" ∷ codes "policies" ∷ [])
 knows Recoverability key = list_any (bytes_eq key) (codes "immediate" ∷ codes "delayed" ∷ codes "increase" ∷ [])
 knows Outbox key = list_any (bytes_eq key) (codes "retention" ∷ [])
 
@@ -22,11 +24,14 @@ prefix_of Outbox = codes "outbox."
 -- the keys of the group that mean nothing, each written whole
 abbrev pub others_in : Group → Members → List (List ℕ)
 others_in group no_members = []
-others_in group (member key value rest) = if knows group key then others_in group rest else (prefix_of group ++ key) ∷ others_in group rest
+others_in group (member key value rest) =
+    if knows group key then others_in group rest else (prefix_of group ++ key) ∷ others_in group rest
 
 -- all keys that mean nothing
 abbrev pub others_of : Data → List (List ℕ)
-others_of root = others_in Top (members_of (Some root)) ++ others_in Recoverability (members_of (get (codes "recoverability") root)) ++ others_in Outbox (members_of (get (codes "outbox") root))
+others_of root =
+    others_in Top (members_of (Some root)) ++ others_in Recoverability (members_of (get (codes "recoverability") root))
+    ++ others_in Outbox (members_of (get (codes "outbox") root))
 
 -- the lesser of two keys, by their bytes
 abbrev pub lesser : Option (List ℕ) → List ℕ → List ℕ

@@ -69,16 +69,39 @@ action_of text =
 -- each member is a fault's name and what is done with it
 abbrev pub policies_of : Members → List Policy
 policies_of no_members = []
-policies_of (member name value rest) = record { name = name; action = unwrap_or (option_and_then action_of (as_str value)) action.Error } ∷ policies_of rest
+policies_of (member name value rest) =
+    record { name = name; action = unwrap_or (option_and_then action_of (as_str value)) action.Error } ∷ policies_of rest
+
+-- what a table says under its keys
+abbrev pub endpoint_at : Data → List ℕ
+endpoint_at root = text_or [] (get (codes "endpoint") root)
+
+abbrev pub error_at : Data → List ℕ
+error_at root = text_or (codes "error") (get (codes "error") root)
+
+abbrev pub retries_at : Data → Retries
+retries_at root = retries_of (get (codes "recoverability") root)
+
+abbrev pub retention_at : Data → ℕ
+retention_at root = number_or 604800 (within (codes "retention") (get (codes "outbox") root))
+
+abbrev pub routes_at : Data → List Route
+routes_at root = routes_of (members_of (get (codes "routes") root))
+
+abbrev pub subscribers_at : Data → List Subscriber
+subscribers_at root = subscribers_of (members_of (get (codes "subscribers") root))
+
+abbrev pub policies_at : Data → List Policy
+policies_at root = policies_of (members_of (get (codes "policies") root))
 
 -- the settings say what the table says
 pub record AreSettingsOf (root : Data) (s : Settings) : Type 0 where
-  pub endpoint : s.endpoint ≡ text_or [] (get (codes "endpoint") root)
-  pub error : s.error ≡ text_or (codes "error") (get (codes "error") root)
-  pub immediate : s.immediate ≡ (retries_of (get (codes "recoverability") root)).immediate
-  pub delayed : s.delayed ≡ (retries_of (get (codes "recoverability") root)).delayed
-  pub increase : s.increase ≡ (retries_of (get (codes "recoverability") root)).increase
-  pub retention : s.retention ≡ number_or 604800 (within (codes "retention") (get (codes "outbox") root))
-  pub routes : s.routes ≡ routes_of (members_of (get (codes "routes") root))
-  pub subscribers : s.subscribers ≡ subscribers_of (members_of (get (codes "subscribers") root))
-  pub policies : s.policies ≡ policies_of (members_of (get (codes "policies") root))
+  pub endpoint : s.endpoint ≡ endpoint_at root
+  pub error : s.error ≡ error_at root
+  pub immediate : s.immediate ≡ (retries_at root).immediate
+  pub delayed : s.delayed ≡ (retries_at root).delayed
+  pub increase : s.increase ≡ (retries_at root).increase
+  pub retention : s.retention ≡ retention_at root
+  pub routes : s.routes ≡ routes_at root
+  pub subscribers : s.subscribers ≡ subscribers_at root
+  pub policies : s.policies ≡ policies_at root

@@ -28,7 +28,8 @@ const MOST_BYTES: usize = 1048576;
 
 /// The table that the bytes are.
 fn table_of(alloc: Global, bytes: &[u8]) -> Result<Option<Value>, NoMemory>
-    ensures { IfOk result (λ o. MatchOption o (toml_of bytes.now ≡ None) (λ v. (ms : _) × (toml_of bytes.now ≡ Some ms) × (view v ≡ table_data ms))) }
+    ensures { IfOk result (λ o. MatchOption o (toml_of bytes.now ≡ None)
+        (λ v. (ms : _) × (toml_of bytes.now ≡ Some ms) × (view v ≡ table_data ms))) }
 {
     match toml::table_from_slice(alloc, bytes) {
         Ok(table) => Ok(Some(Value::Table(table))),

@@ -3,9 +3,9 @@ ghost use Rattle.std.specs.Prelude.{◌≡◌, [], bytes_eq, true, false, IfOk, 
 ghost use Rattle.toml.specs.Data.{get};
 ghost use Rattle.toml.specs.View.{view};
 ghost use Rattle.nb_base.specs.SettingsRules.{is_endpoint, is_queue};
-ghost use Rattle.nb_settings.specs.Faults.{endpoint_faults, error_faults, own_faults};
+ghost use Rattle.nb_settings.specs.Faults.{endpoint_faults_at, error_faults_at, own_faults};
 ghost use Rattle.nb_settings.specs.Files.{Reads};
-ghost use Rattle.nb_settings.specs.Values.{text_or};
+ghost use Rattle.nb_settings.specs.Values.{endpoint_at, error_at};
 
 use crate::queues::{is_endpoint, is_queue};
 use crate::refusal::{SettingsKind, SettingsRefusal, fault};
@@ -15,7 +15,7 @@ use toml::Value;
 
 /// The endpoint's name.
 pub(crate) fn endpoint_in(alloc: Global, root: &Value) -> Result<Text, SettingsRefusal>
-    ensures reads { Reads result (endpoint_faults (get (codes "endpoint") (view root.now))) (text_or [] (get (codes "endpoint") (view root.now))) }
+    ensures reads { Reads result (endpoint_faults_at (view root.now)) (endpoint_at (view root.now)) }
     ensures range { IfOk result (λ t. is_endpoint t ≡ true) }
 {
     match root.get("endpoint") {
@@ -48,7 +48,7 @@ pub(crate) fn error_in(
     endpoint: &Text,
     root: &Value,
 ) -> Result<Text, SettingsRefusal>
-    ensures reads { Reads result (error_faults endpoint.now (get (codes "error") (view root.now))) (text_or (codes "error") (get (codes "error") (view root.now))) }
+    ensures reads { Reads result (error_faults_at endpoint.now (view root.now)) (error_at (view root.now)) }
     ensures range { IfOk result (λ t. is_queue t ≡ true) }
     ensures differs { IfOk result (λ t. bytes_eq t endpoint.now ≡ false) }
 {

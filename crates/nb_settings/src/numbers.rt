@@ -2,9 +2,9 @@
 ghost use Rattle.std.specs.Prelude.{◌≡◌, ◌≤◌, IfOk, Some, option_map, codes};
 ghost use Rattle.toml.specs.Data.{get};
 ghost use Rattle.toml.specs.View.{view};
-ghost use Rattle.nb_settings.specs.Faults.{number_faults, group_faults, retry_faults, outbox_faults};
+ghost use Rattle.nb_settings.specs.Faults.{number_faults, outbox_faults_at, retry_faults, retry_faults_at};
 ghost use Rattle.nb_settings.specs.Files.{Reads};
-ghost use Rattle.nb_settings.specs.Values.{AreInRange, number_or, retries_of, within};
+ghost use Rattle.nb_settings.specs.Values.{AreInRange, number_or, retention_at, retries_at, retries_of};
 
 use crate::refusal::{SettingsKind, SettingsRefusal, fault};
 use crate::retries::Retries;
@@ -20,7 +20,9 @@ fn number_in(
     missing: u32,
 ) -> Result<u32, SettingsRefusal>
     requires { missing ≤ most }
-    ensures reads { Reads result (number_faults key.now most (option_map (λ v. view v.now) value.entry)) (number_or missing (option_map (λ v. view v.now) value.entry)) }
+    ensures reads { Reads result
+        (number_faults key.now most (option_map (λ v. view v.now) value.entry))
+        (number_or missing (option_map (λ v. view v.now) value.entry)) }
     ensures range { IfOk result (λ n. n ≤ most) }
 {
     match value {
@@ -56,7 +58,7 @@ fn retries_within(alloc: Global, group: &Value) -> Result<Retries, SettingsRefus
 
 /// The numbers of recoverability, as far as they are given.
 pub(crate) fn retries_in(alloc: Global, root: &Value) -> Result<Retries, SettingsRefusal>
-    ensures reads { Reads result (group_faults (codes "recoverability") retry_faults (get (codes "recoverability") (view root.now))) (retries_of (get (codes "recoverability") (view root.now))) }
+    ensures reads { Reads result (retry_faults_at (view root.now)) (retries_at (view root.now)) }
     ensures range { IfOk result AreInRange }
 {
     match root.get("recoverability") {
@@ -77,7 +79,7 @@ pub(crate) fn retries_in(alloc: Global, root: &Value) -> Result<Retries, Setting
 
 /// The seconds for which a record is kept.
 pub(crate) fn retention_in(alloc: Global, root: &Value) -> Result<u64, SettingsRefusal>
-    ensures reads { Reads result (group_faults (codes "outbox") outbox_faults (get (codes "outbox") (view root.now))) (number_or 604800 (within (codes "retention") (get (codes "outbox") (view root.now)))) }
+    ensures reads { Reads result (outbox_faults_at (view root.now)) (retention_at (view root.now)) }
     ensures range { IfOk result (λ n. n ≤ 315360000) }
 {
     match root.get("outbox") {

@@ -5,9 +5,9 @@ ghost use Rattle.toml.specs.Data.{as_str, get};
 ghost use Rattle.toml.specs.View.{table_view, view};
 ghost use Rattle.nb_base.specs.SettingsRules.{are_policies};
 ghost use Rattle.nb_base.specs.declared.route.Action.TheVariants as action;
-ghost use Rattle.nb_settings.specs.Faults.{group_faults, policy_faults, text_faults};
+ghost use Rattle.nb_settings.specs.Faults.{policy_faults, policy_faults_at, text_faults};
 ghost use Rattle.nb_settings.specs.Files.{Reads};
-ghost use Rattle.nb_settings.specs.Values.{action_of, members_of, policies_of};
+ghost use Rattle.nb_settings.specs.Values.{action_of, policies_at, policies_of};
 
 use crate::refusal::{SettingsKind, SettingsRefusal, fault, fault_under};
 use nb_base::{Action, Items, Policies, Policy, Text};
@@ -59,7 +59,7 @@ fn policies_within(alloc: Global, table: &Table) -> Result<Policies, SettingsRef
 
 /// The policies, if any are given.
 pub(crate) fn policies_in(alloc: Global, root: &Value) -> Result<Policies, SettingsRefusal>
-    ensures reads { Reads result (group_faults (codes "policies") (λ group. policy_faults (members_of (Some group))) (get (codes "policies") (view root.now))) (policies_of (members_of (get (codes "policies") (view root.now)))) }
+    ensures reads { Reads result (policy_faults_at (view root.now)) (policies_at (view root.now)) }
     ensures sound { IfOk result (λ policies. are_policies policies ≡ true) }
 {
     match root.get("policies") {

@@ -3,9 +3,9 @@ ghost use Rattle.std.specs.Prelude.{◌≡◌, ◌++◌, [], true, IfOk, Some, c
 ghost use Rattle.toml.specs.Data.{as_str, get};
 ghost use Rattle.toml.specs.View.{table_view, view};
 ghost use Rattle.nb_base.specs.SettingsRules.{are_routes, is_queue};
-ghost use Rattle.nb_settings.specs.Faults.{group_faults, route_faults, text_faults};
+ghost use Rattle.nb_settings.specs.Faults.{route_faults, route_faults_at, text_faults};
 ghost use Rattle.nb_settings.specs.Files.{Reads};
-ghost use Rattle.nb_settings.specs.Values.{members_of, routes_of, text_or};
+ghost use Rattle.nb_settings.specs.Values.{routes_at, routes_of, text_or};
 
 use crate::queues::is_queue;
 use crate::refusal::{SettingsKind, SettingsRefusal, fault, fault_under};
@@ -15,7 +15,9 @@ use toml::{Table, Value};
 
 /// The queue of a message.
 fn queue_in(alloc: Global, name: &str, value: &Value) -> Result<Text, SettingsRefusal>
-    ensures { Reads result (text_faults (codes "routes." ++ name.now) is_queue (as_str (view value.now))) (text_or [] (Some (view value.now))) }
+    ensures { Reads result
+        (text_faults (codes "routes." ++ name.now) is_queue (as_str (view value.now)))
+        (text_or [] (Some (view value.now))) }
 {
     match value {
         Value::String(text) => {
@@ -45,7 +47,7 @@ fn routes_within(alloc: Global, table: &Table) -> Result<Routes, SettingsRefusal
 
 /// The routes, if any are given.
 pub(crate) fn routes_in(alloc: Global, root: &Value) -> Result<Routes, SettingsRefusal>
-    ensures reads { Reads result (group_faults (codes "routes") (λ group. route_faults (members_of (Some group))) (get (codes "routes") (view root.now))) (routes_of (members_of (get (codes "routes") (view root.now)))) }
+    ensures reads { Reads result (route_faults_at (view root.now)) (routes_at (view root.now)) }
     ensures sound { IfOk result (λ routes. are_routes routes ≡ true) }
 {
     match root.get("routes") {

@@ -3,9 +3,9 @@ ghost use Rattle.std.specs.Prelude.{◌≡◌, ◌++◌, true, IfOk, Some, codes
 ghost use Rattle.toml.specs.Data.{as_array, get};
 ghost use Rattle.toml.specs.View.{items_view, table_view, view};
 ghost use Rattle.nb_base.specs.SettingsRules.{are_subscribers};
-ghost use Rattle.nb_settings.specs.Faults.{array_faults, group_faults, item_faults, kind_faults, subscriber_faults};
+ghost use Rattle.nb_settings.specs.Faults.{array_faults, item_faults, kind_faults, subscriber_faults, subscriber_faults_at};
 ghost use Rattle.nb_settings.specs.Files.{Reads};
-ghost use Rattle.nb_settings.specs.Values.{members_of, queues_of, subscribers_of, texts_of};
+ghost use Rattle.nb_settings.specs.Values.{queues_of, subscribers_at, subscribers_of, texts_of};
 
 use crate::queues::{are_all_queues, differ};
 use crate::refusal::{SettingsKind, SettingsRefusal, fault, fault_under};
@@ -67,7 +67,7 @@ fn subscribers_within(alloc: Global, table: &Table) -> Result<Subscribers, Setti
 
 /// The subscribers, if any are given.
 pub(crate) fn subscribers_in(alloc: Global, root: &Value) -> Result<Subscribers, SettingsRefusal>
-    ensures reads { Reads result (group_faults (codes "subscribers") (λ group. subscriber_faults (members_of (Some group))) (get (codes "subscribers") (view root.now))) (subscribers_of (members_of (get (codes "subscribers") (view root.now)))) }
+    ensures reads { Reads result (subscriber_faults_at (view root.now)) (subscribers_at (view root.now)) }
     ensures sound { IfOk result (λ subscribers. are_subscribers subscribers ≡ true) }
 {
     match root.get("subscribers") {
