@@ -26,6 +26,7 @@ pub mod Placing
 pub mod Putting
 pub mod Reading
 pub mod Recounting
+pub mod Sampling
 pub mod Sending
 pub mod Serials
 pub mod Settles

@@ -24,6 +24,7 @@ pub mod Ready
 pub mod Refusing
 pub mod Replay
 pub mod RunFacts
+pub mod Samples
 pub mod Sent
 pub mod Serve
 pub mod Settling

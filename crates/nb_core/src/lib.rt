@@ -38,4 +38,6 @@ pub use staleness::{conflict, version};
 pub use state::State;
 
 #[cfg(test)]
+mod replay_tests;
+#[cfg(test)]
 mod tests;
