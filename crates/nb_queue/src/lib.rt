@@ -15,3 +15,6 @@ mod take;
 
 pub use fault::PostFault;
 pub use post::{LIMIT, Post, PostClosed, PostRefusal};
+
+#[cfg(test)]
+mod tests;
