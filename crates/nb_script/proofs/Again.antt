@@ -14,6 +14,7 @@ use Rattle.nb_script.specs.Words.{keyword_text}
 use Rattle.nb_script.specs.Printing.{expr, open_unless, close_unless}
 use Rattle.nb_script.specs.Bare as bare
 use Rattle.nb_script.specs.Respelling.{placed}
+use Rattle.nb_script.proofs.LexBack.{IsPrintable}
 
 -- ---- tokens with their places, by their numbers
 
@@ -162,9 +163,9 @@ again_operators f k n (Prefix p op e) = ap suc (again_operators f (suc k) 0 e)
 again_operators f k n (Infix a p op b) =
     unless_operators (nat_le (level op) n) f k _ op _ (expr (left_level op) a) (expr (level op - 1) b) (operators a) (operators b) (λ j. again_operators f j (left_level op) a) (λ j. again_operators f j (level op - 1) b)
 
--- None is past the limits.
+-- It isn't past the limits, and can be printed.
 abbrev pub IsKept : Mark → Type 0
-IsKept m = m.past ≡ false
+IsKept m = (m.past ≡ false) × IsPrintable m.lexeme.content
 
 abbrev pub Kept : List Mark → Type 0
 Kept ms = Every IsKept ms
@@ -208,7 +209,7 @@ infix_kept : (f : ℕ → ℕ) (k more left i : ℕ) (a : ℕ → Term) (op : Bi
     → Kept (spelling more left (infix_at f k a op b xs))
 infix_kept f k more left i a op b xs count first few second =
     kept_join (spelling more left (a k)) _ (first k)
-    (subst (λ i. is_zero (left - i) ≡ false) (sym (count k)) few, subst (λ i. Kept (spelling more (left - i - 1) (b (suc (past k xs))))) (sym (count k)) (second (suc (past k xs))))
+    ((subst (λ i. is_zero (left - i) ≡ false) (sym (count k)) few, tt), subst (λ i. Kept (spelling more (left - i - 1) (b (suc (past k xs))))) (sym (count k)) (second (suc (past k xs))))
 
 unless_kept : (bare : Bool) (f : ℕ → ℕ) (k n m room more left i : ℕ) (a : ℕ → Term) (op : Binary) (b : ℕ → Term) (xs ys : List Content) → nat_le (level op) n ≡ bare → level op ≤ m → HasRoom m n room more → room ≤ more → ((j : ℕ) → operators (a j) ≡ i)
     → ((j more : ℕ) → room ≤ more → Kept (spelling more left (a j))) → is_zero (left - i) ≡ false → ((j more : ℕ) → room ≤ more → Kept (spelling more (left - i - 1) (b j)))
@@ -217,7 +218,7 @@ unless_kept true f k n m room more left i a op b xs ys e low has le count first 
 unless_kept false f k n m room more left i a op b xs ys e low (Bare fits) le count first few second = (let above : n < level op = leb-false (level op) n e in absurd (omega arith))
 unless_kept false f k n m room zero left i a op b xs ys e low (Deep lt) le count first few second = absurd (omega arith)
 unless_kept false f k n m room (suc more) left i a op b xs ys e low (Deep lt) le count first few second =
-    (refl, kept_join (spelling more left (infix_at f (suc k) a op b xs)) _ (infix_kept f (suc k) more left i a op b xs count (λ j. first j more (omega arith)) few (λ j. second j more (omega arith))) (refl, tt))
+    ((refl, tt), kept_join (spelling more left (infix_at f (suc k) a op b xs)) _ (infix_kept f (suc k) more left i a op b xs count (λ j. first j more (omega arith)) few (λ j. second j more (omega arith))) ((refl, tt), tt))
 
 pub again_kept : (f : ℕ → ℕ) (k n m room more left : ℕ) (e : Term) → Kept (spelling room left e) → IsWithin m e → room ≤ more → HasRoom m n room more → Kept (spelling more left (again f k n e))
 again_kept f k n m room more left (Number p v) it fits le has = it
@@ -226,14 +227,14 @@ again_kept f k n m room more left (Constant p w) it fits le has = it
 again_kept f k n m room more left (Field p h d q x) it fits le has = it
 again_kept f k n m room more left (Name p x) it fits le has = it
 again_kept f k n m room more left (Call p w o e q) it fits le has =
-    (refl, (has_room room more it.1.0 le, kept_join _ _ (again_kept f (suc (suc k)) 5 5 (one_less room) (one_less more) left e (kept_front (spelling (one_less room) left e) _ it.1.1) fits (less_room room more le) (Bare (omega arith))) (refl, tt)))
-again_kept f k n m zero more left (Paren o e q) it fits le has = (let no : true ≡ false = it.0 in cc)
+    (it.0, ((has_room room more it.1.0.0 le, tt), kept_join _ _ (again_kept f (suc (suc k)) 5 5 (one_less room) (one_less more) left e (kept_front (spelling (one_less room) left e) _ it.1.1) fits (less_room room more le) (Bare (omega arith))) ((refl, tt), tt)))
+again_kept f k n m zero more left (Paren o e q) it fits le has = (let no : true ≡ false = it.0.0 in cc)
 again_kept f k n m (suc room) more left (Paren o e q) it fits le has = again_kept f k n 5 room more left e (kept_front (spelling room left e) _ it.1) fits (omega arith) (Deep (omega arith))
 again_kept f k n m room more left (Prefix p op e) it fits le has =
-    (either_kept (is_zero room) (is_zero left) (is_zero more) it.0 (λ z. has_room room more z le), again_kept f (suc k) 0 0 (one_less room) (one_less more) (left - 1) e it.1 fits (less_room room more le) (Bare (omega arith)))
+    ((either_kept (is_zero room) (is_zero left) (is_zero more) it.0.0 (λ z. has_room room more z le), tt), again_kept f (suc k) 0 0 (one_less room) (one_less more) (left - 1) e it.1 fits (less_room room more le) (Bare (omega arith)))
 again_kept f k n m room more left (Infix a p op b) it fits le has =
     let front : Kept (spelling room left a) = kept_front (spelling room left a) _ it in
     let back : IsKept (marked (is_zero (left - operators a)) (c.Symbol (binary_symbol op)) p) × Kept (spelling room (left - operators a - 1) b) = kept_back (spelling room left a) _ it in
     unless_kept (nat_le (level op) n) f k n m room more left (operators a) _ op _ (expr (left_level op) a) (expr (level op - 1) b) refl fits.0 has le (λ j. again_operators f j (left_level op) a)
-    (λ j more le. again_kept f j (left_level op) (left_level op) room more left a front fits.1 le (Bare (omega arith))) back.0
+    (λ j more le. again_kept f j (left_level op) (left_level op) room more left a front fits.1 le (Bare (omega arith))) back.0.0
     (λ j more le. again_kept f j (level op - 1) (level op - 1) room more (left - operators a - 1) b back.1 fits.2 le (Bare (omega arith)))

@@ -10,13 +10,14 @@ use Rattle.nb_script.specs.declared.item.Revision.{Revision}
 use Rattle.nb_script.specs.declared.item.SagaField.{SagaField}
 use Rattle.nb_script.specs.declared.expr.TypeName.{TypeName}
 use Rattle.nb_script.specs.Grammar.{Braces, PartTerm, ByField, ById, SagaTerm, ItemTerm, Message, Handler, Saga}
-use Rattle.nb_script.specs.Spelling.{Mark, each, Every, IsTypeName, IsBlock, Strung, Always, message_field_goes_on, saga_field_goes_on, IsPart, IsSaga, IsItem, finder_key, answer_key}
+use Rattle.nb_script.specs.Spelling.{Mark, lexeme, lexemes, each, Every, IsTypeName, IsBlock, Strung, Always, message_field_goes_on, saga_field_goes_on, IsPart, IsSaga, IsItem, finder_key, answer_key}
 use Rattle.nb_script.specs.Spelling as spelled
 use Rattle.nb_script.specs.Printing.{key, listed, all_of}
 use Rattle.nb_script.specs.Printing as printed
 use Rattle.nb_script.specs.Bare as bare
 use Rattle.nb_script.specs.Answer.{Spells}
 use Rattle.nb_script.specs.Respelling.{placed, IsRespelled}
+use Rattle.nb_script.proofs.LexBack.{IsPrintable}
 use Rattle.nb_script.proofs.Again.{past, Shown, shown_more, shown_join, IsKept, Kept, kept_join, kept_front, kept_back}
 use Rattle.nb_script.proofs.AgainParts.{Redone, type_again, type_redone, strung_again, strung_redone, field_again, put_message_field, spell_message_field, message_field_put, put_saga_field, spell_saga_field, saga_field_put}
 use Rattle.nb_script.proofs.AgainStatements.{braces_again, braces_redone}
@@ -40,7 +41,7 @@ part_redone f k (ByField p w t q u x b) it =
           (printed.type_name t) (key k'.By ∷ c.Word x ∷ printed.block b) (name.shown room) (shown_more f here (key k'.By) (shown_more f (suc here) (c.Word x) (body.shown room))));
       fits = (name.fits, body.fits);
       same = ap (λ t. ByField 0 w t 0 0 x (bare.braces (braces_again f (suc (suc here)) b))) name.same ∙ ap (λ s. ByField 0 w (bare.type_name t) 0 0 x s) body.same;
-      kept = λ room all. (refl, kept_join (spelled.type_name (type_again f (suc k) t)) _ (name.kept room (kept_front (spelled.type_name t) _ all.1)) (refl, (refl, body.kept room (kept_back (spelled.type_name t) _ all.1).1.1)));
+      kept = λ room all. (all.0, kept_join (spelled.type_name (type_again f (suc k) t)) _ (name.kept room (kept_front (spelled.type_name t) _ all.1)) ((kept_back (spelled.type_name t) _ all.1).0, ((kept_back (spelled.type_name t) _ all.1).1.0, body.kept room (kept_back (spelled.type_name t) _ all.1).1.1)));
     }
 part_redone f k (ById p w t b) it =
     let name = type_redone f (suc k) t it.0 in
@@ -50,7 +51,7 @@ part_redone f k (ById p w t b) it =
       shown = λ room. shown_more f k (key (answer_key w)) (shown_join f (suc k) (spelled.type_name (type_again f (suc k) t)) (spelled.block room (braces_again f here b)) (printed.type_name t) (printed.block b) (name.shown room) (body.shown room));
       fits = (name.fits, body.fits);
       same = ap (λ t. ById 0 w t (bare.braces (braces_again f here b))) name.same ∙ ap (λ s. ById 0 w (bare.type_name t) s) body.same;
-      kept = λ room all. (refl, kept_join (spelled.type_name (type_again f (suc k) t)) _ (name.kept room (kept_front (spelled.type_name t) _ all.1)) (body.kept room (kept_back (spelled.type_name t) _ all.1)));
+      kept = λ room all. (all.0, kept_join (spelled.type_name (type_again f (suc k) t)) _ (name.kept room (kept_front (spelled.type_name t) _ all.1)) (body.kept room (kept_back (spelled.type_name t) _ all.1)));
     }
 
 -- ---- rows of parts and of items
@@ -86,9 +87,9 @@ revision_same : (f : ℕ → ℕ) (k : ℕ) (r : Option Revision) → option_map
 revision_same f k None = refl
 revision_same f k (Some r) = refl
 
-revision_kept : (f : ℕ → ℕ) (k : ℕ) (r : Option Revision) → Kept (spelled.revision (revision_again f k r))
-revision_kept f k None = tt
-revision_kept f k (Some r) = (refl, (refl, tt))
+revision_kept : (f : ℕ → ℕ) (k : ℕ) (r : Option Revision) → Kept (spelled.revision r) → Kept (spelled.revision (revision_again f k r))
+revision_kept f k None all = tt
+revision_kept f k (Some r) all = all
 
 -- the numbers of the word 'on', of the brace behind the head, of the first field and of the first part
 abbrev on_number : ℕ → SagaTerm → ℕ
@@ -148,13 +149,13 @@ body_shown f k s room it =
 body_kept : (f : ℕ → ℕ) (k : ℕ) (s : SagaTerm) (room : ℕ) → IsSaga s → Kept (body room s) → Kept (body room (saga_again f k s))
 body_kept f k s room it all =
     let back = kept_back (each spelled.saga_field s.fields) (spelled.symbol sym'.CloseBrace s.fields_close_at ∷ (each (spelled.part room) s.parts ++ spelled.symbol sym'.CloseBrace s.close_at ∷ [])) all.1.1.1 in (
-      refl,
+      all.0,
       (
-        refl,
+        all.1.0,
         (
-          refl,
+          all.1.1.0,
           kept_join (each spelled.saga_field (fields_again f k s)) _ ((fields_redone f k s it).kept room (kept_front (each spelled.saga_field s.fields) _ all.1.1.1))
-              (refl, kept_join (each (spelled.part room) (parts_again f k s)) _ ((parts_redone f k s it).kept room (kept_front (each (spelled.part room) s.parts) _ back.1)) (refl, tt)),
+              ((refl, tt), kept_join (each (spelled.part room) (parts_again f k s)) _ ((parts_redone f k s it).kept room (kept_front (each (spelled.part room) s.parts) _ back.1)) ((refl, tt), tt)),
         ),
       ),
     )
@@ -177,8 +178,14 @@ saga_same f k s it =
 
 saga_kept : (f : ℕ → ℕ) (k : ℕ) (s : SagaTerm) (room : ℕ) → IsSaga s → Kept (spelled.saga room s) → Kept (spelled.saga room (saga_again f k s))
 saga_kept f k s room it all =
-    let back = kept_back (spelled.revision s.revision) (tail_of room s) all.1.1 in
-    (refl, (refl, kept_join (spelled.revision (revision_again f (suc (suc k)) s.revision)) (tail_of room (saga_again f k s)) (revision_kept f (suc (suc k)) s.revision) (refl, (refl, (refl, (refl, body_kept f k s room it back.1.1.1.1))))))
+    let back = kept_back (spelled.revision s.revision) (tail_of room s) all.1.1 in (
+      all.0,
+      (
+        all.1.0,
+        kept_join (spelled.revision (revision_again f (suc (suc k)) s.revision)) (tail_of room (saga_again f k s)) (revision_kept f (suc (suc k)) s.revision (kept_front (spelled.revision s.revision) (tail_of room s) all.1.1))
+            (back.0, (back.1.0, (back.1.1.0, (back.1.1.1.0, body_kept f k s room it back.1.1.1.1)))),
+      ),
+    )
 
 -- ---- items
 
@@ -200,9 +207,9 @@ item_redone f k (Message p t o fs q) it =
       same = ap (λ t. Message 0 t 0 (map bare.message_field (strung_again (put_message_field f) printed.message_field f (suc here) fs)) 0) name.same ∙ ap (λ xs. Message 0 (bare.type_name t) 0 xs 0) fields.same;
       kept = λ room all. (
           let back = kept_back (spelled.type_name t) (spelled.symbol sym'.OpenBrace o ∷ (each spelled.message_field fs ++ spelled.symbol sym'.CloseBrace q ∷ [])) all.1 in (
-            refl,
+            all.0,
             kept_join (spelled.type_name (type_again f (suc k) t)) _ (name.kept room (kept_front (spelled.type_name t) _ all.1))
-                (refl, kept_join (each spelled.message_field (strung_again (put_message_field f) printed.message_field f (suc here) fs)) _ (fields.kept room (kept_front (each spelled.message_field fs) _ back.1)) (refl, tt)),
+                ((refl, tt), kept_join (each spelled.message_field (strung_again (put_message_field f) printed.message_field f (suc here) fs)) _ (fields.kept room (kept_front (each spelled.message_field fs) _ back.1)) ((refl, tt), tt)),
           ));
     }
 item_redone f k (Handler p t b) it =
@@ -213,7 +220,7 @@ item_redone f k (Handler p t b) it =
       shown = λ room. shown_more f k (key k'.Handler) (shown_join f (suc k) (spelled.type_name (type_again f (suc k) t)) (spelled.block room (braces_again f here b)) (printed.type_name t) (printed.block b) (name.shown room) (body.shown room));
       fits = (name.fits, body.fits);
       same = ap (λ t. Handler 0 t (bare.braces (braces_again f here b))) name.same ∙ ap (λ s. Handler 0 (bare.type_name t) s) body.same;
-      kept = λ room all. (refl, kept_join (spelled.type_name (type_again f (suc k) t)) _ (name.kept room (kept_front (spelled.type_name t) _ all.1)) (body.kept room (kept_back (spelled.type_name t) _ all.1)));
+      kept = λ room all. (all.0, kept_join (spelled.type_name (type_again f (suc k) t)) _ (name.kept room (kept_front (spelled.type_name t) _ all.1)) (body.kept room (kept_back (spelled.type_name t) _ all.1)));
     }
 item_redone f k (Saga s) it = record {
   shown = λ room. saga_shown f k s room it;
@@ -227,26 +234,44 @@ item_redone f k (Saga s) it = record {
 script_redone : (f : ℕ → ℕ) (items : List ItemTerm) → Every IsItem items → Redone f 0 (λ room. each (spelled.item room)) (all_of printed.item items) (Every IsItem) (map bare.item) items (row_again printed.item (item_again f) 0 items)
 script_redone f items it = row_redone f spelled.item printed.item IsItem bare.item (item_again f) (item_redone f) 0 items it
 
-all_kept : (ms : List Mark) → ((j : ℕ) (x : Mark) → slice_get ms j ≡ Some x → x.past ≡ false) → Kept ms
-all_kept [] it = tt
-all_kept (m ∷ ms) it = (it 0 m refl, all_kept ms (λ j x e. it (suc j) x e))
+-- what each token says can be printed
+abbrev pub AllSay : List Mark → Type 0
+AllSay ms = Every (λ m. IsPrintable m.lexeme.content) ms
+
+all_kept : (ms : List Mark) → ((j : ℕ) (x : Mark) → slice_get ms j ≡ Some x → x.past ≡ false) → AllSay ms → Kept ms
+all_kept [] it says = tt
+all_kept (m ∷ ms) it says = ((it 0 m refl, says.0), all_kept ms (λ j x e. it (suc j) x e) says.1)
 
 each_kept : (ms : List Mark) (j : ℕ) (x : Mark) → Kept ms → slice_get ms j ≡ Some x → x.past ≡ false
 each_kept [] j x it e = cc
-each_kept (m ∷ ms) zero x it e = (let both : Some m ≡ Some x = e in let same : m ≡ x = cc in subst IsKept same it.0)
+each_kept (m ∷ ms) zero x it e = (let both : Some m ≡ Some x = e in let same : m ≡ x = cc in (subst IsKept same it.0).0)
 each_kept (m ∷ ms) (suc j) x it e = each_kept ms j x it.1 e
 
--- What is printed of a script is spelled by one that is the same but for places.
-pub respelled : (f : ℕ → ℕ) (ts : List Lexeme) (items : List ItemTerm) → Spells ts items → IsRespelled f items
-respelled f ts items it =
+all_say : (f : ℕ → ℕ) (k : ℕ) (ms : List Mark) (xs : List Content) → Shown f k ms xs → Kept ms → Every IsPrintable xs
+all_say f k [] [] shown it = tt
+all_say f k [] (x ∷ xs) shown it = cc
+all_say f k (m ∷ ms) [] shown it = cc
+all_say f k (m ∷ ms) (x ∷ xs) shown it = (
+    let whole : m.lexeme ∷ lexemes ms ≡ lexeme x (f k) ∷ placed f (suc k) xs = shown in
+    let first : m.lexeme ≡ lexeme x (f k) = cc in
+    let others : lexemes ms ≡ placed f (suc k) xs = cc in
+    (subst (λ l. IsPrintable l.content) first it.0.1, all_say f (suc k) ms xs others it.1))
+
+-- What is printed of a script is spelled by one that is the same but for places, and can be printed.
+pub record IsReprinted (f : ℕ → ℕ) (items : List ItemTerm) : Type 0 where
+  pub respelled : IsRespelled f items
+  pub says : Every IsPrintable (all_of printed.item items)
+
+pub respelled_of : (f : ℕ → ℕ) (ts : List Lexeme) (items : List ItemTerm) → Spells ts items → AllSay (each (spelled.item 100) items) → IsReprinted f items
+respelled_of f ts items it say =
     let again = script_redone f items it.grammatical in
     let marks : List Mark = each (spelled.item 100) (row_again printed.item (item_again f) 0 items) in
+    let kept : Kept marks = again.kept 100 (all_kept (each (spelled.item 100) items) it.keeps say) in
     record {
-      again = row_again printed.item (item_again f) 0 items;
-      spells = record {
-        spelled = sym (again.shown 100);
-        grammatical = again.fits;
-        keeps = λ j x e. each_kept marks j x (again.kept 100 (all_kept (each (spelled.item 100) items) it.keeps)) e;
+      respelled = record {
+        again = row_again printed.item (item_again f) 0 items;
+        spells = record { spelled = sym (again.shown 100); grammatical = again.fits; keeps = λ j x e. each_kept marks j x kept e };
+        same = again.same;
       };
-      same = again.same;
+      says = all_say f 0 marks (all_of printed.item items) (again.shown 100) kept;
     }

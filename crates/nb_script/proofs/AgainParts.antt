@@ -63,9 +63,9 @@ dots_same : (f : ℕ → ℕ) (k : ℕ) (ds : List Dotted) → map bare.dotted (
 dots_same f k [] = refl
 dots_same f k (d ∷ ds) = ap (λ es. bare.dotted d ∷ es) (dots_same f (suc (suc k)) ds)
 
-dots_kept : (f : ℕ → ℕ) (k : ℕ) (ds : List Dotted) → Kept (each spelled.dotted (dots_again f k ds))
-dots_kept f k [] = tt
-dots_kept f k (d ∷ ds) = (refl, (refl, dots_kept f (suc (suc k)) ds))
+dots_kept : (f : ℕ → ℕ) (k : ℕ) (ds : List Dotted) → Kept (each spelled.dotted ds) → Kept (each spelled.dotted (dots_again f k ds))
+dots_kept f k [] all = tt
+dots_kept f k (d ∷ ds) all = (all.0, (all.1.0, dots_kept f (suc (suc k)) ds all.1.1))
 
 abbrev pub type_again : (ℕ → ℕ) → ℕ → TypeName → TypeName
 type_again f k t = record { at = f k; name = t.name; others = dots_again f (suc k) t.others }
@@ -78,7 +78,7 @@ type_redone f k t it = record {
   shown = λ room. shown_more f k (c.Word t.name) (dots_shown f (suc k) t.others);
   fits = (it.0, dots_fit f (suc k) t.others it.1);
   same = ap (λ ds. record { at = 0; name = t.name; others = ds }) (dots_same f (suc k) t.others);
-  kept = λ room all. (refl, dots_kept f (suc k) t.others);
+  kept = λ room all. (all.0, dots_kept f (suc k) t.others all.1);
 }
 
 -- ---- lists with commas
@@ -135,7 +135,7 @@ module _ {X : Type 0} (f : ℕ → ℕ) (spell : ℕ → X → List Mark) (print
 
 comma_kept : (o : Option ℕ) → Kept (comma o)
 comma_kept None = tt
-comma_kept (Some p) = (refl, tt)
+comma_kept (Some p) = ((refl, tt), tt)
 
 -- ---- messages that are made
 
@@ -147,7 +147,7 @@ arg_same f k a o = ap (λ t. record { at = 0; name = a.name; colon_at = 0; value
 
 arg_kept : (f : ℕ → ℕ) (k : ℕ) (a : ArgTerm) (o : Option ℕ) → IsArg a → (room : ℕ) → Kept (spelled.arg room a) → Kept (spelled.arg room (put_arg f k a o))
 arg_kept f k a o it room all =
-    (refl, (refl, kept_join (expression room (again f (suc (suc k)) 5 a.value)) (comma o) ((expr_redone f (suc (suc k)) a.value it).kept room (kept_front (expression room a.value) (comma a.comma_at) all.1.1)) (comma_kept o)))
+    (all.0, (all.1.0, kept_join (expression room (again f (suc (suc k)) 5 a.value)) (comma o) ((expr_redone f (suc (suc k)) a.value it).kept room (kept_front (expression room a.value) (comma a.comma_at) all.1.1)) (comma_kept o)))
 
 arg_put : (f : ℕ → ℕ) → IsPut f spelled.arg printed.arg arg_goes_on IsArg bare.arg (put_arg f)
 arg_put f = record {
@@ -187,7 +187,7 @@ make_redone f k m it =
       same = ap (λ t. record { name = t; open_at = 0; args = map bare.arg (strung_again (put_arg f) printed.arg f (suc next) m.args); close_at = 0 }) name.same ∙ ap (λ xs. record { name = bare.type_name m.name; open_at = 0; args = xs; close_at = 0 }) args.same;
       kept = λ room all. (
           let back = kept_back (spelled.type_name m.name) _ all in
-          kept_join (spelled.type_name (type_again f k m.name)) _ (name.kept room (kept_front (spelled.type_name m.name) _ all)) (refl, kept_join _ _ (args.kept room (kept_front (each (spelled.arg room) m.args) _ back.1)) (refl, tt)));
+          kept_join (spelled.type_name (type_again f k m.name)) _ (name.kept room (kept_front (spelled.type_name m.name) _ all)) ((refl, tt), kept_join _ _ (args.kept room (kept_front (each (spelled.arg room) m.args) _ back.1)) ((refl, tt), tt)));
     }
 
 -- ---- fields
@@ -203,8 +203,8 @@ spell_message_field room x = spelled.message_field x
 
 pub message_field_put : (f : ℕ → ℕ) → IsPut f spell_message_field printed.message_field message_field_goes_on Always bare.message_field (put_message_field f)
 message_field_put f = record {
-  last = λ k x it. record { shown = λ room. refl; fits = tt; same = refl; kept = λ room all. (refl, (refl, (refl, tt))) };
-  inner = λ k x it. record { shown = λ room. refl; fits = tt; same = refl; kept = λ room all. (refl, (refl, (refl, (refl, tt)))) };
+  last = λ k x it. record { shown = λ room. refl; fits = tt; same = refl; kept = λ room all. (all.0, (all.1.0, (all.1.1.0, tt))) };
+  inner = λ k x it. record { shown = λ room. refl; fits = tt; same = refl; kept = λ room all. (all.0, (all.1.0, (all.1.1.0, ((refl, tt), tt)))) };
   goes_on = λ k x p. refl;
 }
 
@@ -235,13 +235,13 @@ literal_same f k (literal.Number (Some q) p (negsuc n)) = refl
 literal_same f k (literal.Quoted p t) = refl
 literal_same f k (literal.Truth p b) = refl
 
-literal_kept : (f : ℕ → ℕ) (k : ℕ) (l : Literal) → Kept (spelled.literal_spelling (literal_again f k l))
-literal_kept f k (literal.Number None p n) = (refl, tt)
-literal_kept f k (literal.Number (Some q) p (pos zero)) = (refl, tt)
-literal_kept f k (literal.Number (Some q) p (pos (suc n))) = (refl, (refl, tt))
-literal_kept f k (literal.Number (Some q) p (negsuc n)) = (refl, (refl, tt))
-literal_kept f k (literal.Quoted p t) = (refl, tt)
-literal_kept f k (literal.Truth p b) = (refl, tt)
+literal_kept : (f : ℕ → ℕ) (k : ℕ) (l : Literal) → Kept (spelled.literal_spelling l) → Kept (spelled.literal_spelling (literal_again f k l))
+literal_kept f k (literal.Number None p n) all = all
+literal_kept f k (literal.Number (Some q) p (pos zero)) all = all.1
+literal_kept f k (literal.Number (Some q) p (pos (suc n))) all = all
+literal_kept f k (literal.Number (Some q) p (negsuc n)) all = all
+literal_kept f k (literal.Quoted p t) all = all
+literal_kept f k (literal.Truth p b) all = all
 
 abbrev pub since_again : (ℕ → ℕ) → ℕ → Option Since → Option Since
 since_again f k None = None
@@ -256,9 +256,9 @@ since_same : (f : ℕ → ℕ) (k : ℕ) (s : Option Since) → option_map bare.
 since_same f k None = refl
 since_same f k (Some s) = ap (λ l. Some (record { at = 0; number_at = 0; revision = s.revision; equals_at = 0; literal = l })) (literal_same f (suc (suc (suc k))) s.literal)
 
-since_kept : (f : ℕ → ℕ) (k : ℕ) (s : Option Since) → Kept (spelled.since (since_again f k s))
-since_kept f k None = tt
-since_kept f k (Some s) = (refl, (refl, (refl, literal_kept f (suc (suc (suc k))) s.literal)))
+since_kept : (f : ℕ → ℕ) (k : ℕ) (s : Option Since) → Kept (spelled.since s) → Kept (spelled.since (since_again f k s))
+since_kept f k None all = tt
+since_kept f k (Some s) all = (all.0, (all.1.0, (all.1.1.0, literal_kept f (suc (suc (suc k))) s.literal all.1.1.1)))
 
 abbrev pub put_saga_field : (ℕ → ℕ) → ℕ → SagaField → Option ℕ → SagaField
 put_saga_field f k x o = record { field = field_again f k x.field; since = since_again f (suc (suc (suc k))) x.since; comma_at = o }
@@ -269,8 +269,9 @@ spell_saga_field room x = spelled.saga_field x
 saga_field_same : (f : ℕ → ℕ) (k : ℕ) (x : SagaField) (o : Option ℕ) → bare.saga_field (put_saga_field f k x o) ≡ bare.saga_field x
 saga_field_same f k x o = ap (λ s. record { field = bare.field x.field; since = s; comma_at = None }) (since_same f (suc (suc (suc k))) x.since)
 
-saga_field_kept : (f : ℕ → ℕ) (k : ℕ) (x : SagaField) (o : Option ℕ) → Kept (spelled.saga_field (put_saga_field f k x o))
-saga_field_kept f k x o = (refl, (refl, (refl, kept_join (spelled.since (since_again f (suc (suc (suc k))) x.since)) (comma o) (since_kept f (suc (suc (suc k))) x.since) (comma_kept o))))
+saga_field_kept : (f : ℕ → ℕ) (k : ℕ) (x : SagaField) (o : Option ℕ) → Kept (spelled.saga_field x) → Kept (spelled.saga_field (put_saga_field f k x o))
+saga_field_kept f k x o all =
+    (all.0, (all.1.0, (all.1.1.0, kept_join (spelled.since (since_again f (suc (suc (suc k))) x.since)) (comma o) (since_kept f (suc (suc (suc k))) x.since (kept_front (spelled.since x.since) (comma x.comma_at) all.1.1.1)) (comma_kept o))))
 
 -- the three tokens of a field, and what follows
 field_shown : (f : ℕ → ℕ) (k : ℕ) (x : FieldLine) (ms : List Mark) (xs : List Content) → Shown f (suc (suc (suc k))) ms xs → Shown f k (spelled.field (field_again f k x) ++ ms) (printed.field x ++ xs)
@@ -282,13 +283,13 @@ saga_field_put f = record {
     shown = λ room. field_shown f k x.field _ (printed.since x.since) (shown_ends f (suc (suc (suc k))) _ (printed.since x.since) (since_shown f (suc (suc (suc k))) x.since));
     fits = tt;
     same = saga_field_same f k x None;
-    kept = λ room all. saga_field_kept f k x None;
+    kept = λ room all. saga_field_kept f k x None all;
   };
   inner = λ k x it. record {
     shown = λ room. field_shown f k x.field _ (printed.since x.since ++ c.Symbol sym'.Comma ∷ []) (shown_join f (suc (suc (suc k))) _ _ (printed.since x.since) (c.Symbol sym'.Comma ∷ []) (since_shown f (suc (suc (suc k))) x.since) refl);
     fits = tt;
     same = saga_field_same f k x (Some (f (past k (printed.saga_field x))));
-    kept = λ room all. saga_field_kept f k x (Some (f (past k (printed.saga_field x))));
+    kept = λ room all. saga_field_kept f k x (Some (f (past k (printed.saga_field x)))) all;
   };
   goes_on = λ k x p. refl;
 }

@@ -22,14 +22,14 @@ ended_shown f k e room = shown_join f k (expression room (again f k 5 e)) (spell
 
 ended_kept : (f : ℕ → ℕ) (k : ℕ) (e : Term) (s t room : ℕ) → IsWithin 5 e → Kept (expression room e ++ spelled.symbol sym'.Semi s ∷ []) → Kept (expression room (again f k 5 e) ++ spelled.symbol sym'.Semi t ∷ [])
 ended_kept f k e s t room it all =
-    kept_join (expression room (again f k 5 e)) (spelled.symbol sym'.Semi t ∷ []) ((expr_redone f k e it).kept room (kept_front (expression room e) (spelled.symbol sym'.Semi s ∷ []) all)) (refl, tt)
+    kept_join (expression room (again f k 5 e)) (spelled.symbol sym'.Semi t ∷ []) ((expr_redone f k e it).kept room (kept_front (expression room e) (spelled.symbol sym'.Semi s ∷ []) all)) ((refl, tt), tt)
 
 made_shown : (f : ℕ → ℕ) (k : ℕ) (m : MakeTerm) (room : ℕ) → IsMake m → Shown f k (spelled.make room (make_again f k m) ++ spelled.symbol sym'.Semi (f (past k (printed.make m))) ∷ []) (printed.made m)
 made_shown f k m room it = shown_join f k (spelled.make room (make_again f k m)) (spelled.symbol sym'.Semi (f (past k (printed.make m))) ∷ []) (printed.make m) (c.Symbol sym'.Semi ∷ []) ((make_redone f k m it).shown room) refl
 
 made_kept : (f : ℕ → ℕ) (k : ℕ) (m : MakeTerm) (s t room : ℕ) → IsMake m → Kept (spelled.make room m ++ spelled.symbol sym'.Semi s ∷ []) → Kept (spelled.make room (make_again f k m) ++ spelled.symbol sym'.Semi t ∷ [])
 made_kept f k m s t room it all =
-    kept_join (spelled.make room (make_again f k m)) (spelled.symbol sym'.Semi t ∷ []) ((make_redone f k m it).kept room (kept_front (spelled.make room m) (spelled.symbol sym'.Semi s ∷ []) all)) (refl, tt)
+    kept_join (spelled.make room (make_again f k m)) (spelled.symbol sym'.Semi t ∷ []) ((make_redone f k m it).kept room (kept_front (spelled.make room m) (spelled.symbol sym'.Semi s ∷ []) all)) ((refl, tt), tt)
 
 abbrev pub row_again : (ℕ → ℕ) → ℕ → RowTerm → RowTerm
 row_again f k r = record { at = f k; open_at = f (suc k); name = again f (suc (suc k)) 5 r.name; close_at = f (past (suc (suc k)) (expr 5 r.name)) }
@@ -40,7 +40,7 @@ row_redone f k r it = record {
       (shown_join f (suc (suc k)) (expression room (again f (suc (suc k)) 5 r.name)) (spelled.symbol sym'.Close (f (past (suc (suc k)) (expr 5 r.name))) ∷ []) (expr 5 r.name) (c.Symbol sym'.Close ∷ []) (again_shown f (suc (suc k)) 5 room 1000 r.name) refl));
   fits = again_within f (suc (suc k)) 5 5 r.name it;
   same = ap (λ t. record { at = 0; open_at = 0; name = t; close_at = 0 }) (again_bare f (suc (suc k)) 5 r.name);
-  kept = λ room all. (refl, (refl, kept_join (expression room (again f (suc (suc k)) 5 r.name)) _ ((expr_redone f (suc (suc k)) r.name it).kept room (kept_front (expression room r.name) _ all.1.1)) (refl, tt)));
+  kept = λ room all. (all.0, (all.1.0, kept_join (expression room (again f (suc (suc k)) 5 r.name)) _ ((expr_redone f (suc (suc k)) r.name it).kept room (kept_front (expression room r.name) _ all.1.1)) ((refl, tt), tt)));
 }
 
 abbrev pub delay_again : (ℕ → ℕ) → ℕ → Option AfterTerm → Option AfterTerm
@@ -53,7 +53,7 @@ delay_redone f k (Some a) it = record {
   shown = λ room. shown_more f k (key k'.After) (again_shown f (suc k) 5 room 1000 a.delay);
   fits = again_within f (suc k) 5 5 a.delay it;
   same = ap (λ t. Some (record { at = 0; delay = t })) (again_bare f (suc k) 5 a.delay);
-  kept = λ room all. (refl, (expr_redone f (suc k) a.delay it).kept room all.1);
+  kept = λ room all. (all.0, (expr_redone f (suc k) a.delay it).kept room all.1);
 }
 
 abbrev pub originator_again : (ℕ → ℕ) → ℕ → Option ℕ → Option ℕ
@@ -68,9 +68,9 @@ originator_same : (f : ℕ → ℕ) (k : ℕ) (o : Option ℕ) → option_map ba
 originator_same f k None = refl
 originator_same f k (Some p) = refl
 
-originator_kept : (f : ℕ → ℕ) (k : ℕ) (o : Option ℕ) → Kept (spelled.originator (originator_again f k o))
-originator_kept f k None = tt
-originator_kept f k (Some p) = (refl, tt)
+originator_kept : (f : ℕ → ℕ) (k : ℕ) (o : Option ℕ) → Kept (spelled.originator o) → Kept (spelled.originator (originator_again f k o))
+originator_kept f k None all = tt
+originator_kept f k (Some p) all = all
 
 -- ---- statements
 
@@ -117,7 +117,7 @@ let_redone f k p q x u e s it = record {
   shown = λ room. shown_more f k (key k'.Let) (shown_more f (suc k) (c.Word x) (shown_more f (suc (suc k)) (c.Symbol sym'.Assign) (ended_shown f (suc (suc (suc k))) e room)));
   fits = (it.0, again_within f (suc (suc (suc k))) 5 5 e it.1);
   same = ap (λ t. Let 0 0 x 0 t 0) (again_bare f (suc (suc (suc k))) 5 e);
-  kept = λ room all. (refl, (refl, (refl, ended_kept f (suc (suc (suc k))) e s _ room it.1 all.1.1.1)));
+  kept = λ room all. (all.0, (all.1.0, (all.1.1.0, ended_kept f (suc (suc (suc k))) e s _ room it.1 all.1.1.1)));
 }
 
 set_redone : (f : ℕ → ℕ) (k p q : ℕ) (x : List ℕ) (u : ℕ) (e : Term) (s : ℕ) → IsWithin 5 e → PhraseRedone f k (Set p q x u e s)
@@ -125,7 +125,7 @@ set_redone f k p q x u e s it = record {
   shown = λ room. shown_more f k (key k'.Set) (shown_more f (suc k) (c.Word x) (shown_more f (suc (suc k)) (c.Symbol sym'.Assign) (ended_shown f (suc (suc (suc k))) e room)));
   fits = again_within f (suc (suc (suc k))) 5 5 e it;
   same = ap (λ t. Set 0 0 x 0 t 0) (again_bare f (suc (suc (suc k))) 5 e);
-  kept = λ room all. (refl, (refl, (refl, ended_kept f (suc (suc (suc k))) e s _ room it all.1.1.1)));
+  kept = λ room all. (all.0, (all.1.0, (all.1.1.0, ended_kept f (suc (suc (suc k))) e s _ room it all.1.1.1)));
 }
 
 put_redone : (f : ℕ → ℕ) (k p : ℕ) (r : RowTerm) (u : ℕ) (e : Term) (s : ℕ) → IsRowName r → IsWithin 5 e → PhraseRedone f k (Put p r u e s)
@@ -136,7 +136,7 @@ put_redone f k p r u e s row it =
           (printed.row_name r) (c.Symbol sym'.Assign ∷ printed.ended e) (name.shown room) (shown_more f (after_row k r) (c.Symbol sym'.Assign) (ended_shown f (suc (after_row k r)) e room)));
       fits = (name.fits, again_within f (suc (after_row k r)) 5 5 e it);
       same = ap (λ t. Put 0 t 0 (bare.term (again f (suc (after_row k r)) 5 e)) 0) name.same ∙ ap (λ t. Put 0 (bare.row_name r) 0 t 0) (again_bare f (suc (after_row k r)) 5 e);
-      kept = λ room all. (refl, kept_join (spelled.row_name room (row_again f (suc k) r)) _ (name.kept room (kept_front (spelled.row_name room r) _ all.1)) (refl, ended_kept f (suc (after_row k r)) e s _ room it (kept_back (spelled.row_name room r) _ all.1).1));
+      kept = λ room all. (all.0, kept_join (spelled.row_name room (row_again f (suc k) r)) _ (name.kept room (kept_front (spelled.row_name room r) _ all.1)) ((kept_back (spelled.row_name room r) _ all.1).0, ended_kept f (suc (after_row k r)) e s _ room it (kept_back (spelled.row_name room r) _ all.1).1));
     }
 
 add_redone : (f : ℕ → ℕ) (k p : ℕ) (r : RowTerm) (u : ℕ) (e : Term) (s : ℕ) → IsRowName r → IsWithin 5 e → PhraseRedone f k (Add p r u e s)
@@ -147,7 +147,7 @@ add_redone f k p r u e s row it =
           (printed.row_name r) (key k'.By ∷ printed.ended e) (name.shown room) (shown_more f (after_row k r) (key k'.By) (ended_shown f (suc (after_row k r)) e room)));
       fits = (name.fits, again_within f (suc (after_row k r)) 5 5 e it);
       same = ap (λ t. Add 0 t 0 (bare.term (again f (suc (after_row k r)) 5 e)) 0) name.same ∙ ap (λ t. Add 0 (bare.row_name r) 0 t 0) (again_bare f (suc (after_row k r)) 5 e);
-      kept = λ room all. (refl, kept_join (spelled.row_name room (row_again f (suc k) r)) _ (name.kept room (kept_front (spelled.row_name room r) _ all.1)) (refl, ended_kept f (suc (after_row k r)) e s _ room it (kept_back (spelled.row_name room r) _ all.1).1));
+      kept = λ room all. (all.0, kept_join (spelled.row_name room (row_again f (suc k) r)) _ (name.kept room (kept_front (spelled.row_name room r) _ all.1)) ((kept_back (spelled.row_name room r) _ all.1).0, ended_kept f (suc (after_row k r)) e s _ room it (kept_back (spelled.row_name room r) _ all.1).1));
     }
 
 erase_redone : (f : ℕ → ℕ) (k p : ℕ) (r : RowTerm) (s : ℕ) → IsRowName r → PhraseRedone f k (Erase p r s)
@@ -157,7 +157,7 @@ erase_redone f k p r s row =
       shown = λ room. shown_more f k (key k'.Erase) (shown_join f (suc k) (spelled.row_name room (row_again f (suc k) r)) (spelled.symbol sym'.Semi (f (after_row k r)) ∷ []) (printed.row_name r) (c.Symbol sym'.Semi ∷ []) (name.shown room) refl);
       fits = name.fits;
       same = ap (λ t. Erase 0 t 0) name.same;
-      kept = λ room all. (refl, kept_join (spelled.row_name room (row_again f (suc k) r)) _ (name.kept room (kept_front (spelled.row_name room r) _ all.1)) (refl, tt));
+      kept = λ room all. (all.0, kept_join (spelled.row_name room (row_again f (suc k) r)) _ (name.kept room (kept_front (spelled.row_name room r) _ all.1)) ((refl, tt), tt));
     }
 
 send_redone : (f : ℕ → ℕ) (k : ℕ) (a : Option AfterTerm) (p : ℕ) (to : _) (m : MakeTerm) (s : ℕ) → IsDelay a → IsMake m → PhraseRedone f k (Send a p to m s)
@@ -169,7 +169,7 @@ send_redone f k a p to m s delayed it =
           (printed.delay a) (key (destination_key to) ∷ printed.made m) (wait.shown room) (shown_more f here (key (destination_key to)) (made_shown f (suc here) m room it));
       fits = (wait.fits, (make_redone f (suc here) m it).fits);
       same = ap (λ t. Send t 0 to (bare.make (make_again f (suc here) m)) 0) wait.same ∙ ap (λ t. Send (option_map bare.after a) 0 to t 0) (make_redone f (suc here) m it).same;
-      kept = λ room all. kept_join (spelled.delay room (delay_again f k a)) _ (wait.kept room (kept_front (spelled.delay room a) _ all)) (refl, made_kept f (suc here) m s _ room it (kept_back (spelled.delay room a) _ all).1);
+      kept = λ room all. kept_join (spelled.delay room (delay_again f k a)) _ (wait.kept room (kept_front (spelled.delay room a) _ all)) ((kept_back (spelled.delay room a) _ all).0, made_kept f (suc here) m s _ room it (kept_back (spelled.delay room a) _ all).1);
     }
 
 publish_redone : (f : ℕ → ℕ) (k p : ℕ) (m : MakeTerm) (s : ℕ) → IsMake m → PhraseRedone f k (Publish p m s)
@@ -177,7 +177,7 @@ publish_redone f k p m s it = record {
   shown = λ room. shown_more f k (key k'.Publish) (made_shown f (suc k) m room it);
   fits = (make_redone f (suc k) m it).fits;
   same = ap (λ t. Publish 0 t 0) (make_redone f (suc k) m it).same;
-  kept = λ room all. (refl, made_kept f (suc k) m s _ room it all.1);
+  kept = λ room all. (all.0, made_kept f (suc k) m s _ room it all.1);
 }
 
 reply_redone : (f : ℕ → ℕ) (k p : ℕ) (o : Option ℕ) (m : MakeTerm) (s : ℕ) → IsMake m → PhraseRedone f k (Reply p o m s)
@@ -188,7 +188,7 @@ reply_redone f k p o m s it =
           (printed.originator o) (printed.made m) (originator_shown f (suc k) o) (made_shown f here m room it));
       fits = (make_redone f here m it).fits;
       same = ap (λ t. Reply 0 t (bare.make (make_again f here m)) 0) (originator_same f (suc k) o) ∙ ap (λ t. Reply 0 (option_map bare.nowhere o) t 0) (make_redone f here m it).same;
-      kept = λ room all. (refl, kept_join (spelled.originator (originator_again f (suc k) o)) _ (originator_kept f (suc k) o) (made_kept f here m s _ room it (kept_back (spelled.originator o) _ all.1)));
+      kept = λ room all. (all.0, kept_join (spelled.originator (originator_again f (suc k) o)) _ (originator_kept f (suc k) o (kept_front (spelled.originator o) _ all.1)) (made_kept f here m s _ room it (kept_back (spelled.originator o) _ all.1)));
     }
 
 timeout_redone : (f : ℕ → ℕ) (k p : ℕ) (e : Term) (m : MakeTerm) (s : ℕ) → IsWithin 5 e → IsMake m → PhraseRedone f k (Timeout p e m s)
@@ -200,7 +200,7 @@ timeout_redone f k p e m s within it =
           (expr 5 e) (printed.made m) (wait.shown room) (made_shown f here m room it));
       fits = (wait.fits, (make_redone f here m it).fits);
       same = ap (λ t. Timeout 0 t (bare.make (make_again f here m)) 0) wait.same ∙ ap (λ t. Timeout 0 (bare.term e) t 0) (make_redone f here m it).same;
-      kept = λ room all. (refl, kept_join (expression room (again f (suc k) 5 e)) _ (wait.kept room (kept_front (expression room e) _ all.1)) (made_kept f here m s _ room it (kept_back (expression room e) _ all.1)));
+      kept = λ room all. (all.0, kept_join (expression room (again f (suc k) 5 e)) _ (wait.kept room (kept_front (expression room e) _ all.1)) (made_kept f here m s _ room it (kept_back (expression room e) _ all.1)));
     }
 
 refuse_redone : (f : ℕ → ℕ) (k p : ℕ) (r : _) (q : ℕ) (x : List ℕ) (e : Term) (s : ℕ) → IsStatement (Refuse p r q x e s) → PhraseRedone f k (Refuse p r q x e s)
@@ -208,7 +208,7 @@ refuse_redone f k p r q x e s it = record {
   shown = λ room. shown_more f k (key (refusal_key r)) (shown_more f (suc k) (c.Word x) (ended_shown f (suc (suc k)) e room));
   fits = (it.0, again_within f (suc (suc k)) 5 5 e it.1);
   same = ap (λ t. Refuse 0 r 0 x t 0) (again_bare f (suc (suc k)) 5 e);
-  kept = λ room all. (refl, (refl, ended_kept f (suc (suc k)) e s _ room it.1 all.1.1));
+  kept = λ room all. (all.0, (all.1.0, ended_kept f (suc (suc k)) e s _ room it.1 all.1.1));
 }
 
 mutual
@@ -222,7 +222,7 @@ mutual
   phrase_redone f k (Publish p m s) it = publish_redone f k p m s it
   phrase_redone f k (Reply p o m s) it = reply_redone f k p o m s it
   phrase_redone f k (Timeout p e m s) it = timeout_redone f k p e m s it.0 it.1
-  phrase_redone f k (Complete p s) it = record { shown = λ room. refl; fits = tt; same = refl; kept = λ room all. (refl, (refl, tt)) }
+  phrase_redone f k (Complete p s) it = record { shown = λ room. refl; fits = tt; same = refl; kept = λ room all. all }
   phrase_redone f k (Refuse p r q x e s) it = refuse_redone f k p r q x e s it
   phrase_redone f k (If p e b o) it =
       let test = expr_redone f (suc k) e it.0 in
@@ -236,7 +236,7 @@ mutual
         same = ap (λ t. If 0 t (bare.braces (braces_again f here b)) (bare.otherwise (otherwise_again f (past here (printed.block b)) o))) test.same ∙ ap (λ t. If 0 (bare.term e) t (bare.otherwise (otherwise_again f (past here (printed.block b)) o))) taken.same ∙ ap (λ t. If 0 (bare.term e) (bare.braces b) t) other.same;
         kept = λ room all. (
             let back = kept_back (expression room e) (spelled.block room b ++ spelled.alternative room o) all.1 in
-            (refl, kept_join (expression room (again f (suc k) 5 e)) _ (test.kept room (kept_front (expression room e) _ all.1)) (kept_join (spelled.block room (braces_again f here b)) _ (taken.kept room (kept_front (spelled.block room b) (spelled.alternative room o) back)) (other.kept room (kept_back (spelled.block room b) (spelled.alternative room o) back)))));
+            (all.0, kept_join (expression room (again f (suc k) 5 e)) _ (test.kept room (kept_front (expression room e) _ all.1)) (kept_join (spelled.block room (braces_again f here b)) _ (taken.kept room (kept_front (spelled.block room b) (spelled.alternative room o) back)) (other.kept room (kept_back (spelled.block room b) (spelled.alternative room o) back)))));
       }
 
   phrases_redone : (f : ℕ → ℕ) (k : ℕ) (xs : Phrases) → AreStatements xs → Redone f k spelled.statements (printed.statements xs) AreStatements bare.phrases xs (phrases_again f k xs)
@@ -258,7 +258,7 @@ mutual
         shown = λ room. shown_more f k (c.Symbol sym'.OpenBrace) (shown_join f (suc k) (spelled.statements (one_less room) (phrases_again f (suc k) b)) (spelled.symbol sym'.CloseBrace (f (past (suc k) (printed.statements b))) ∷ []) (printed.statements b) (c.Symbol sym'.CloseBrace ∷ []) (body.shown (one_less room)) refl);
         fits = body.fits;
         same = ap (λ t. Brace 0 t 0) body.same;
-        kept = λ room all. (all.0, kept_join (spelled.statements (one_less room) (phrases_again f (suc k) b)) _ (body.kept (one_less room) (kept_front (spelled.statements (one_less room) b) _ all.1)) (refl, tt));
+        kept = λ room all. (all.0, kept_join (spelled.statements (one_less room) (phrases_again f (suc k) b)) _ (body.kept (one_less room) (kept_front (spelled.statements (one_less room) b) _ all.1)) ((refl, tt), tt));
       }
 
   pub otherwise_redone : (f : ℕ → ℕ) (k : ℕ) (o : Otherwise) → IsAlternative o → Redone f k spelled.alternative (printed.alternative o) IsAlternative bare.otherwise o (otherwise_again f k o)
@@ -269,7 +269,7 @@ mutual
         shown = λ room. shown_more f k (key k'.Else) (body.shown room);
         fits = body.fits;
         same = ap (λ t. Last 0 t) body.same;
-        kept = λ room all. (refl, body.kept room all.1);
+        kept = λ room all. (all.0, body.kept room all.1);
       }
   otherwise_redone f k (Chain p q e b o) it =
       let test = expr_redone f (suc (suc k)) e it.0 in
@@ -283,5 +283,5 @@ mutual
         same = ap (λ t. Chain 0 0 t (bare.braces (braces_again f here b)) (bare.otherwise (otherwise_again f (past here (printed.block b)) o))) test.same ∙ ap (λ t. Chain 0 0 (bare.term e) t (bare.otherwise (otherwise_again f (past here (printed.block b)) o))) taken.same ∙ ap (λ t. Chain 0 0 (bare.term e) (bare.braces b) t) other.same;
         kept = λ room all. (
             let back = kept_back (expression (one_less room) e) (spelled.block (one_less room) b ++ spelled.alternative (one_less room) o) all.1.1 in
-            (refl, (all.1.0, kept_join (expression (one_less room) (again f (suc (suc k)) 5 e)) _ (test.kept (one_less room) (kept_front (expression (one_less room) e) _ all.1.1)) (kept_join (spelled.block (one_less room) (braces_again f here b)) _ (taken.kept (one_less room) (kept_front (spelled.block (one_less room) b) (spelled.alternative (one_less room) o) back)) (other.kept (one_less room) (kept_back (spelled.block (one_less room) b) (spelled.alternative (one_less room) o) back))))));
+            (all.0, (all.1.0, kept_join (expression (one_less room) (again f (suc (suc k)) 5 e)) _ (test.kept (one_less room) (kept_front (expression (one_less room) e) _ all.1.1)) (kept_join (spelled.block (one_less room) (braces_again f here b)) _ (taken.kept (one_less room) (kept_front (spelled.block (one_less room) b) (spelled.alternative (one_less room) o) back)) (other.kept (one_less room) (kept_back (spelled.block (one_less room) b) (spelled.alternative (one_less room) o) back))))));
       }

@@ -21,3 +21,7 @@ pub mod AgainParts
 pub mod AgainStatements
 pub mod AgainItems
 pub mod Reprinting
+pub mod Printable
+pub mod Escapes
+pub mod LexBack
+pub mod PrintableText

@@ -1,8 +1,9 @@
 //! Prints scripts.
-ghost use Rattle.std.specs.Prelude.{◌≡◌, ◌++◌, ◌∷◌, [], ℕ, IfOk, OnOk};
+ghost use Rattle.std.specs.Prelude.{◌≡◌, ◌++◌, ◌∷◌, ◌≤◌, [], ℕ, length, IfOk, OnOk};
 ghost use Rattle.nb_script.specs.Tree as seen;
 ghost use Rattle.nb_script.specs.Printing.{printed};
 ghost use Rattle.nb_script.specs.Respelling.{IsRespelled};
+ghost use Rattle.nb_script.specs.ReadBack.{IsReadBack};
 ghost use Rattle.nb_script.specs.Scripts.{items_of};
 
 use crate::item::Item;
@@ -34,12 +35,13 @@ impl Printer {
 }
 
 /// The text of a script: its tokens, each with a space behind it, with the parentheses that it needs and without its last
-/// commas and its comments. Each item stands on a line. Wherever these tokens stand, they are those of a script that is the
-/// same but for places.
-#[tactic(auto, using(crate::proofs::Reprinting::reprinted))]
+/// commas and its comments. Each item stands on a line. Where the text isn't too long for a script, it is that of one that is
+/// the same but for places.
+#[tactic(auto, using(crate::proofs::Reprinting::reprinted, crate::proofs::Reprinting::read_back))]
 pub fn print(alloc: Global, script: &Script) -> Result<Text, NoMemory>
     ensures text { IfOk result (λ t. t ≡ printed (items_of script.now)) }
     ensures tokens { (f : ℕ → ℕ) → ∥ IsRespelled f (items_of script.now) ∥₁ }
+    ensures back { IfOk result (λ t. length t ≤ 1048576 → ∥ IsReadBack t (items_of script.now) ∥₁) }
 {
     let mut printer = Printer::new(alloc);
     printer.items(alloc, script.items())?;

@@ -1,6 +1,7 @@
 //! Prints tokens, each with a space behind it.
 ghost use Rattle.std.specs.Prelude.{◌≡◌, ◌++◌, ◌∷◌, [], IfOk, OnOk};
 ghost use Rattle.std.specs.Fmt.{signed_decimal};
+ghost use Rattle.std.specs.Str.{IsUtf8};
 ghost use Rattle.nb_script.specs.Printing.{symbol_text, escape_of, escaped, token_text, texts};
 
 use crate::lexeme::{Content, Symbol};
@@ -68,7 +69,8 @@ impl Printer {
 
     /// What was printed.
     pub fn into_text(self) -> Result<Text, NoMemory>
-        ensures { IfOk result (λ t. t ≡ self) }
+        ensures value { IfOk result (λ t. t ≡ self) }
+        ensures utf8 { IfOk result (λ t. IsUtf8 t) }
     {
         match String::from_utf8(self.bytes) {
             Ok(text) => Text::of_string(text),
