@@ -1,0 +1,7 @@
+use Rattle.std.proofs.Common.{◌≡◌, drop}
+use Rattle.nb_base.specs.declared.value.Key.TheVariants.{ById}
+use Rattle.nb_eval.specs.Worlds.{seen_in}
+use Rattle.nb_eval.proofs.blocks.by_id.Given as goal
+
+abbrev pub invariant-loop-r : goal.invariant-loop-r
+invariant-loop-r l = seen_in (drop l.r-index l.reads) (ById l.saga l.id) ≡ seen_in l.reads (ById l.saga l.id)

@@ -1,0 +1,10 @@
+pub mod Values
+pub mod Worlds
+pub mod Expressions
+pub mod Making
+pub mod Statements
+pub mod Blocks
+pub mod Faults
+pub mod Verdicts
+pub mod Meanings
+pub mod Walks
