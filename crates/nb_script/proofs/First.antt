@@ -42,7 +42,7 @@ stands_within ts k [] m le s = let e : k ≡ m = s in omega arith
 stands_within ts k (x ∷ xs) m le s = let lt : k < length ts = within ts k x.lexeme s.0 in stands_within ts (suc k) xs m (omega arith) s.2
 
 -- the tokens of a list stand at their numbers
-list_meets : (E : Excuse) (g : Source) (k : ℕ) (xs : List Mark) → ((j : ℕ) → g (k + j) ≡ slice_get (lexemes xs) j) → ((j : ℕ) (x : Mark) → slice_get xs j ≡ Some x → x.past ≡ true → E TooDeep (k + j)) → Meets E g k xs (k + length xs)
+pub list_meets : (E : Excuse) (g : Source) (k : ℕ) (xs : List Mark) → ((j : ℕ) → g (k + j) ≡ slice_get (lexemes xs) j) → ((j : ℕ) (x : Mark) → slice_get xs j ≡ Some x → x.past ≡ true → E TooDeep (k + j)) → Meets E g k xs (k + length xs)
 list_meets E g k [] at excused = omega arith
 list_meets E g k (x ∷ xs) at excused =
     let here : g k ≡ Some x.lexeme = subst (λ i. g i ≡ Some x.lexeme) (omega arith) (at 0) in
@@ -52,7 +52,7 @@ list_meets E g k (x ∷ xs) at excused =
       subst (λ m. Meets E g (suc k) xs m) same (list_meets E g (suc k) xs (λ j. subst (λ i. g i ≡ slice_get (lexemes xs) j) (omega arith) (at (suc j))) (λ j y e p. subst (λ i. E TooDeep i) (omega arith) (excused (suc j) y e p))),
     )
 
-after_list : (xs : List Mark) → slice_get (lexemes xs) (length xs) ≡ None
+pub after_list : (xs : List Mark) → slice_get (lexemes xs) (length xs) ≡ None
 after_list [] = refl
 after_list (x ∷ xs) = (let e : length (x ∷ xs) ≡ suc (length xs) = omega arith in ap (λ n. slice_get (lexemes (x ∷ xs)) n) e) ∙ after_list xs
 
@@ -111,7 +111,7 @@ Stopped lines ts f k = whole lines 100 (slice_get ts) 0 ≡ Err (f, k)
 begun : (lines : ℕ) (ts : List Lexeme) (f : Fault) (k : ℕ) → Stopped lines ts f k → Begun (each (item 100)) (Strung always IsItem) (slice_get ts) 0 k f
 begun lines ts f k out = subst (λ r. Explains (each (item 100)) (Strung always IsItem) (slice_get ts) 0 r) out ((whole_sound lines 100).explains (slice_get ts) 0 0 refl)
 
-plus : (j : ℕ) → 0 + j ≡ j
+pub plus : (j : ℕ) → 0 + j ≡ j
 plus j = omega arith
 
 before : (ts : List Lexeme) (f : Fault) (k : ℕ) → Begun (each (item 100)) (Strung always IsItem) (slice_get ts) 0 k f → Starts ts k

@@ -25,3 +25,5 @@ pub mod Printable
 pub mod Escapes
 pub mod LexBack
 pub mod PrintableText
+pub mod Only
+pub mod Rising

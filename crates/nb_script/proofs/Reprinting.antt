@@ -9,6 +9,7 @@ use Rattle.nb_script.specs.declared.lexer.Token.{Token}
 use Rattle.nb_script.specs.Lexing.{lexed, lexemes_of, lexeme_of, content_of, slice_of}
 use Rattle.nb_script.specs.Spelling.{Mark, lexeme, lexemes, script_marks, Every}
 use Rattle.nb_script.specs.Printing.{all_of, item, printed}
+use Rattle.nb_script.specs.Parsing.{IsScriptText}
 use Rattle.nb_script.specs.ReadBack.{IsReadBack}
 use Rattle.nb_script.specs.Reading.{Outcome}
 use Rattle.nb_script.specs.ReadingScript.{whole}
@@ -16,6 +17,7 @@ use Rattle.nb_script.specs.Reads.{items_read, reads_tokens, reads}
 use Rattle.nb_script.specs.Answer.{Spells}
 use Rattle.nb_script.specs.Respelling.{placed, IsRespelled}
 use Rattle.nb_script.proofs.First.{found}
+use Rattle.nb_script.proofs.Only.{one_script, never_refused}
 use Rattle.nb_script.proofs.LexBack.{IsPrintable, Lexes, printed_lexes}
 use Rattle.nb_script.proofs.PrintableText.{text_tokens_good}
 use Rattle.nb_script.proofs.AgainItems.{AllSay, IsReprinted, respelled_of}
@@ -74,15 +76,12 @@ back_of text out items is utf8 short e =
     let lexes = subst (λ t. Lexes t 0 t (all_of item items)) (sym is) (printed_lexes items ((items_reprinted (λ i. i) text items source).says)) in
     let says : map (λ l. l.content) (lexemes_of out) ≡ all_of item items = lexemes_say out (lexed out).tokens ∙ lexes.tokens (length out) (omega arith) in
     let it = (items_reprinted (place_in (lexemes_of out)) text items source).respelled in
-    record {
-      again = it.again;
-      is_text = record {
-        text_is = record { short = short; utf8 = utf8 };
-        readable = lexes.ends (length out) (omega arith);
-        spells = subst (λ ts. Spells ts it.again) (sym (placed_there (lexemes_of out) ∙ ap (placed (place_in (lexemes_of out)) 0) says)) it.spells;
-      };
-      same = it.same;
-    }
+    let is_text : IsScriptText out it.again = record {
+      text_is = record { short = short; utf8 = utf8 };
+      readable = lexes.ends (length out) (omega arith);
+      spells = subst (λ ts. Spells ts it.again) (sym (placed_there (lexemes_of out) ∙ ap (placed (place_in (lexemes_of out)) 0) says)) it.spells;
+    } in
+    record { again = it.again; is_text = is_text; same = it.same; only = λ other script. one_script out it.again other is_text script; refused = λ f fault. never_refused out it.again f is_text fault }
 
 pub read_back : (text printed_text : List ℕ) (items : List ItemTerm) → printed_text ≡ printed items → IsUtf8 printed_text → ∥ reads text ≡ Some items ∥₁ → length printed_text ≤ 1048576 → ∥ IsReadBack printed_text items ∥₁
 read_back text out items is utf8 it short = ∥∥₁_map it (back_of text out items is utf8 short)

@@ -3,6 +3,7 @@ ghost use Rattle.std.specs.Prelude.{◌≡◌, ◌≤◌, length, slice_get, opt
 ghost use Rattle.nb_script.specs.Lexing.{lexed, lexemes_of};
 ghost use Rattle.nb_script.specs.Answer.{IsFirstPlace};
 ghost use Rattle.nb_script.specs.Scripts.{items_of, text_of};
+ghost use Rattle.nb_script.specs.Spans.{Rise};
 ghost use Rattle.nb_script.specs.Parsing.{StandsAt, IsText, IsScriptText, IsFault, IsLexFault, IsEarly, AreTokens, lex_kind, kind_of};
 
 use crate::content::lexemes;
@@ -116,8 +117,10 @@ fn readable(text: &[u8]) -> Result<&str, ScriptFault>
 }
 
 /// All tokens of a text, in order, or the first place at which none can be read.
+#[tactic(auto, using(crate::proofs::Rising::spans_rise))]
 pub fn tokens(alloc: Global, text: &[u8]) -> Result<Items<Token>, ScriptFault>
     ensures ok { IfOk result (λ ts. AreTokens text.now ts) }
+    ensures rise { IfOk result (λ ts. Rise 0 ts) }
     ensures err { IfErr result (λ f. IsLexFault text.now f) }
 {
     let text = readable(text)?.as_bytes();
