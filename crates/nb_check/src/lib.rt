@@ -27,3 +27,6 @@ pub use known::Known;
 pub use met::Blocks;
 pub use sight::{Judgement, Local, SagaSight, Sight, Taken};
 pub use types::{Declared, MessageType, SagaType, StateField};
+
+#[cfg(test)]
+mod tests;

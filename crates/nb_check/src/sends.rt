@@ -38,7 +38,11 @@ fn add_sent(alloc: Global, d: &Stmt, names: &mut Names) -> Result<(), NoMemory>
 {
     match d {
         Stmt::Send { to, make, .. } => add_routed(alloc, *to, &make.name, names),
-        Stmt::If { block, otherwise, .. } => {
+        Stmt::If {
+            block,
+            otherwise,
+            ..
+        } => {
             add_block(alloc, block, names)?;
             add_else(alloc, otherwise, names)?;
             Ok(())
@@ -65,7 +69,11 @@ fn add_else(alloc: Global, o: &Else, names: &mut Names) -> Result<(), NoMemory>
     match o {
         Else::Nothing => Ok(()),
         Else::Last { block, .. } => add_block(alloc, block, names),
-        Else::Chain { block, otherwise, .. } => {
+        Else::Chain {
+            block,
+            otherwise,
+            ..
+        } => {
             add_block(alloc, block, names)?;
             add_else(alloc, otherwise.get(), names)?;
             Ok(())
