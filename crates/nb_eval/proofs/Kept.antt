@@ -24,7 +24,7 @@ use Rattle.nb_eval.specs.Values.{Answer, ◌>>=◌, found, in_range}
 use Rattle.nb_eval.specs.Worlds.{World, stored, put_row}
 use Rattle.nb_eval.specs.Expressions.{number_or_zero, value_of, whole_of, text_of, truth_of, row_at}
 use Rattle.nb_eval.specs.Making.{made, seconds_of, timed, delay_of, address, answered, from_saga, intent, with_intent, sent, target_of}
-use Rattle.nb_eval.specs.Meanings.{sent_to, phrase_sends, phrases_sends, braces_sends, otherwise_sends}
+use Rattle.nb_check.specs.Sends.{routed, phrase_sends, phrases_sends, braces_sends, otherwise_sends}
 use Rattle.nb_eval.specs.Statements.{with_field, with_fields, set_to, complete, with_name, leave, left, chosen, run, in_turn, within, otherwise}
 use Rattle.nb_eval.proofs.Steps.{bind-ok, all-left, all-right, all-both}
 use Rattle.nb_eval.proofs.SameKeys.{bytes-is}
@@ -168,7 +168,7 @@ module _ (meaning : Meaning) where
       of None is = tt
       of (Some i) is = kept-saga s i i.fields true is
 
-  route-can : (d : Destination) (m : MakeTerm) (from : Bool) → AllByRecursion (λ n. IsAmong n meaning.sends) (sent_to d m) → CanGo meaning (type_text m.name) from (target_of d)
+  route-can : (d : Destination) (m : MakeTerm) (from : Bool) → AllByRecursion (λ n. IsAmong n meaning.sends) (routed d (type_text m.name)) → CanGo meaning (type_text m.name) from (target_of d)
   route-can to.Route m from h = h.0
   route-can to.Local m from h = tt
 

@@ -11,7 +11,7 @@ use Rattle.nb_base.specs.declared.plan.Verdict.{Verdict}
 use Rattle.nb_base.specs.declared.plan.Verdict.TheVariants as verdict
 use Rattle.nb_base.specs.declared.saga_row.Read.{Read}
 use Rattle.nb_base.specs.declared.saga_row.SagaRow.{SagaRow}
-use Rattle.nb_base.specs.declared.saga_row.Seen.TheVariants.{Saga as SagaSeen}
+use Rattle.nb_base.specs.declared.saga_row.Seen.TheVariants.{Absent, Saga as SagaSeen}
 use Rattle.nb_base.specs.declared.value.Field.{Field}
 use Rattle.nb_base.specs.declared.value.Key.{Key}
 use Rattle.nb_base.specs.declared.value.Key.TheVariants as key
@@ -22,12 +22,14 @@ use Rattle.nb_check.specs.Checks.{declared_names, body_fields, blocks_met, keys_
 use Rattle.nb_check.specs.Declarations.{messages, sagas}
 use Rattle.nb_check.specs.Keys.{same_key}
 use Rattle.nb_check.specs.Meets.{incoming}
+use Rattle.nb_check.specs.Sends.{sends}
 use Rattle.nb_check.specs.Rules.{script_faults, placed_messages, placed_sagas}
 use Rattle.nb_check.specs.declared.breach.CheckKind.TheVariants.{MessageTwice, SagaTwice}
+use Rattle.nb_check.specs.declared.types.SagaType.{SagaType}
 use Rattle.nb_check.specs.declared.incoming.Incoming.{Incoming}
 use Rattle.nb_eval.specs.declared.scene.State.{State}
 use Rattle.nb_eval.specs.Blocks.{blocks_do}
-use Rattle.nb_eval.specs.Meanings.{meaning_of, blocks_send, FitsLook}
+use Rattle.nb_eval.specs.Meanings.{meaning_of, FitsLook}
 use Rattle.nb_eval.specs.Values.{Answer, ◌>>=◌}
 use Rattle.nb_eval.specs.Worlds.{seen_in}
 use Rattle.nb_eval.specs.Verdicts.{nothing_done, row_writes, plan_of, world_at, handled, verdict_of, on_body, on_met, on_type, verdict_over}
@@ -64,7 +66,7 @@ module _ (items : List ItemTerm) (rules : script_faults items ≡ []) (t : Store
       let apart = sagas-apart m (messages items) items (left-nil (twice SagaTwice (placed_sagas items)) _ rest) (right-nil (twice SagaTwice (placed_sagas items)) _ rest) in
       let look = fits-look (meaning_of items) (sagas items) t (λ saga row h. h) fit in
       done-then (Ended (meaning_of items) (messages items) (sagas items) t sound (λ saga row h. h) look w refl m known) (IsRightPlan (meaning_of items) t) (blocks_do (sagas items) m 1 (blocks items) w nothing_done) (λ s. Ok (plan_of (shown t) s))
-      (blocks-done (meaning_of items) (messages items) (sagas items) t sound (λ saga row h. h) look w refl m known 1 (blocks items) nothing_done (good-blocks items rules) (all-among (blocks_send (blocks items))) apart (omega arith) (record { once = tt; intents = (omega arith, tt); writes = record { apart = tt; right = tt; past = tt } }))
+      (blocks-done (meaning_of items) (messages items) (sagas items) t sound (λ saga row h. h) look w refl m known 1 (blocks items) nothing_done (good-blocks items rules) (all-among (sends items)) apart (omega arith) (record { once = tt; intents = (omega arith, tt); writes = record { apart = tt; right = tt; past = tt } }))
       (λ s inv. record {
         apart = plan-apart (shown t) inv.0 [] s.writes s.touched inv.1.writes.past inv.1.writes.apart inv.1.once;
         writes = all-both (IsRightWrite (meaning_of items) t) s.writes (row_writes (shown t) s.touched) inv.1.writes.right (row-writes-right (meaning_of items) t (shown t) s.touched);
@@ -117,3 +119,13 @@ shown-fits items e reads h =
       by_corr = λ saga corr row x. look.by_corr saga corr row (seen-shown h.tables (keys_read items e) (key.ByCorr saga corr) row (subst (λ rs. seen_in rs (key.ByCorr saga corr) ≡ SagaSeen row) h.shown x));
       by_id = λ saga id row x. look.by_id saga id row (seen-shown h.tables (keys_read items e) (key.ById saga id) row (subst (λ rs. seen_in rs (key.ById saga id) ≡ SagaSeen row) h.shown x));
     }
+
+absent-saga : (row : SagaRow) → Absent ≡ SagaSeen row → ⊥
+absent-saga row e = cc
+
+-- where nothing was read, no saga is shown
+pub nothing_read : (types : List SagaType) (reads : List Read) → reads ≡ [] → FitsLook types (seen_in reads)
+nothing_read types reads e = record {
+  by_corr = λ saga corr row x. absurd (absent-saga row (subst (λ rs. seen_in rs (key.ByCorr saga corr) ≡ SagaSeen row) e x));
+  by_id = λ saga id row x. absurd (absent-saga row (subst (λ rs. seen_in rs (key.ById saga id) ≡ SagaSeen row) e x));
+}

@@ -38,7 +38,8 @@ use Rattle.nb_eval.specs.Values.{Answer, ◌>>=◌, found}
 use Rattle.nb_eval.specs.Worlds.{World, saga_there}
 use Rattle.nb_eval.specs.Statements.{within}
 use Rattle.nb_eval.specs.Blocks.{stored_instance, new_instance, saga_write, ended, enter, in_block, numbered, on_absent, on_found, on_answer, block_does, term_does, blocks_do}
-use Rattle.nb_eval.specs.Meanings.{FitsLook, braces_sends, blocks_send}
+use Rattle.nb_eval.specs.Meanings.{FitsLook}
+use Rattle.nb_check.specs.Sends.{braces_sends, blocks_sends}
 use Rattle.nb_eval.proofs.Steps.{and-left, all-left, all-right}
 use Rattle.nb_eval.proofs.SameKeys.{bytes-is}
 use Rattle.nb_eval.proofs.Sights.{declared, instance_sight, saga_sight_of, sight_of, Good, kind_if, kind-declared}
@@ -247,16 +248,16 @@ module _ (meaning : Meaning) (ms : List MessageType) (types : List SagaType) (t 
     abbrev pub Ended : State → Type 0
     Ended u = (n : ℕ) × Inv n [] u
 
-    pub blocks-done : (block : ℕ) (bs : List BlockTerm) (s : State) → AllByRecursion (IsGoodBlock ms types) bs → AllByRecursion (λ n. IsAmong n meaning.sends) (blocks_send bs) → AllApart (met_sagas m bs) → 1 ≤ block → Inv block (met_sagas m bs) s
+    pub blocks-done : (block : ℕ) (bs : List BlockTerm) (s : State) → AllByRecursion (IsGoodBlock ms types) bs → AllByRecursion (λ n. IsAmong n meaning.sends) (blocks_sends bs) → AllApart (met_sagas m bs) → 1 ≤ block → Inv block (met_sagas m bs) s
         → IfDone Ended (blocks_do types m block bs w s)
     blocks-done block [] s good sends apart low inv = (block, inv)
     blocks-done block (b ∷ bs) s good sends apart low inv =
-        let rest = all-right (λ n. IsAmong n meaning.sends) (braces_sends b.body) (blocks_send bs) sends in
+        let rest = all-right (λ n. IsAmong n meaning.sends) (braces_sends b.body) (blocks_sends bs) sends in
         (elim (is_met m b) as (λ y. is_met m b ≡ y → AllApart (cond y (role_sagas b.role) [] ++ met_sagas m bs) → Inv block (cond y (role_sagas b.role) [] ++ met_sagas m bs) s
         → IfDone Ended (cond y (term_does types block b w s >>= λ u. blocks_do types m (block + 1) bs w u) (blocks_do types m block bs w s))) [
           | true ↦ λ met apart inv.
               done-then (Inv (block + 1) (met_sagas m bs)) Ended (term_does types block b w s) (λ u. blocks_do types m (block + 1) bs w u)
-              (term-done b block (met_sagas m bs) s good.0 met (all-left (λ n. IsAmong n meaning.sends) (braces_sends b.body) (blocks_send bs) sends) apart low inv)
+              (term-done b block (met_sagas m bs) s good.0 met (all-left (λ n. IsAmong n meaning.sends) (braces_sends b.body) (blocks_sends bs) sends) apart low inv)
               (λ u more. blocks-done (block + 1) bs u good.1 rest (later-apart (role_sagas b.role) (met_sagas m bs) apart) (omega arith) more)
           | false ↦ λ met apart inv. blocks-done block bs s good.1 rest apart low inv
         ]) refl apart inv
