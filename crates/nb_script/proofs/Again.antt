@@ -1,5 +1,5 @@
 -- An expression with the places that its printed tokens have.
-use Rattle.std.proofs.Common.{◌≡◌, ℕ, zero, suc, ◌+◌, ◌-◌, ◌≤◌, ◌<◌, ◌||◌, nat_le, Bool, true, false, List, [], ◌∷◌, ◌++◌, map, refl, ap, sym, subst, ◌∙◌, arith, append_assoc}
+use Rattle.std.proofs.Common.{◌≡◌, ℕ, zero, suc, ◌+◌, ◌-◌, ◌≤◌, ◌<◌, ◌||◌, nat_le, Bool, true, false, List, [], ◌∷◌, ◌++◌, refl, ap, sym, subst, ◌∙◌, arith, append_assoc}
 use Rattle.std.proofs.lemmas.List.{append-nil, map-append}
 use Rattle.std.proofs.lemmas.Bool.{leb-true, leb-false}
 use Rattle.nb_script.specs.declared.lexeme.Symbol.TheVariants as sym'
@@ -9,7 +9,7 @@ use Rattle.nb_script.specs.declared.lexeme.Lexeme.{Lexeme}
 use Rattle.nb_script.specs.declared.expr.Binary.{Binary}
 use Rattle.nb_script.specs.declared.expr.Binary.TheVariants as binary
 use Rattle.nb_script.specs.Grammar.{Term, Number, Quoted, Constant, Field, Name, Call, Paren, Prefix, Infix}
-use Rattle.nb_script.specs.Spelling.{Mark, marked, lexeme, lexemes, is_zero, one_less, operators, spelling, binary_symbol, unary_symbol, function_key, level, left_level, IsWithin, IsName, Every}
+use Rattle.nb_script.specs.Spelling.{Mark, marked, lexeme, lexemes, is_zero, one_less, operators, spelling, binary_symbol, unary_symbol, function_key, level, left_level, IsWithin, Every}
 use Rattle.nb_script.specs.Words.{keyword_text}
 use Rattle.nb_script.specs.Printing.{expr, open_unless, close_unless}
 use Rattle.nb_script.specs.Bare as bare

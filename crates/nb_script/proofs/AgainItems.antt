@@ -5,11 +5,10 @@ use Rattle.nb_script.specs.declared.lexeme.Symbol.TheVariants as sym'
 use Rattle.nb_script.specs.declared.lexeme.Content.{Content}
 use Rattle.nb_script.specs.declared.lexeme.Content.TheVariants as c
 use Rattle.nb_script.specs.declared.lexeme.Lexeme.{Lexeme}
-use Rattle.nb_script.specs.declared.item.MessageField.{MessageField}
 use Rattle.nb_script.specs.declared.item.Revision.{Revision}
 use Rattle.nb_script.specs.declared.item.SagaField.{SagaField}
 use Rattle.nb_script.specs.declared.expr.TypeName.{TypeName}
-use Rattle.nb_script.specs.Grammar.{Braces, PartTerm, ByField, ById, SagaTerm, ItemTerm, Message, Handler, Saga}
+use Rattle.nb_script.specs.Grammar.{PartTerm, ByField, ById, SagaTerm, ItemTerm, Message, Handler, Saga}
 use Rattle.nb_script.specs.Spelling.{Mark, lexeme, lexemes, each, Every, IsTypeName, IsBlock, Strung, Always, message_field_goes_on, saga_field_goes_on, IsPart, IsSaga, IsItem, finder_key, answer_key}
 use Rattle.nb_script.specs.Spelling as spelled
 use Rattle.nb_script.specs.Printing.{key, listed, all_of}

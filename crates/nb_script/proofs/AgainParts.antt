@@ -1,8 +1,7 @@
 -- Types, fields and messages that are made, with the places that their printed tokens have.
-use Rattle.std.proofs.Common.{◌≡◌, ℕ, ℤ, zero, suc, pos, negsuc, ◌≤◌, Bool, true, false, List, [], ◌∷◌, ◌++◌, map, Option, Some, None, option_map, refl, ap, sym, subst, ◌∙◌, arith, append_assoc}
+use Rattle.std.proofs.Common.{◌≡◌, ℕ, ℤ, zero, suc, pos, negsuc, Bool, true, false, List, [], ◌∷◌, ◌++◌, map, Option, Some, None, option_map, refl, ap, sym, subst, ◌∙◌, arith, append_assoc}
 use Rattle.std.proofs.lemmas.List.{append-nil}
 use Rattle.std.specs.Prelude.{codes}
-use Rattle.nb_script.specs.declared.lexeme.Keyword.TheVariants as k'
 use Rattle.nb_script.specs.declared.lexeme.Symbol.TheVariants as sym'
 use Rattle.nb_script.specs.declared.lexeme.Content.{Content}
 use Rattle.nb_script.specs.declared.lexeme.Content.TheVariants as c

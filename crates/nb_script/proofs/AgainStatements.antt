@@ -1,9 +1,7 @@
 -- Statements with the places that their printed tokens have.
 use Rattle.std.proofs.Common.{◌≡◌, ℕ, suc, List, [], ◌∷◌, ◌++◌, Option, Some, None, option_map, refl, ap, ◌∙◌}
-use Rattle.nb_script.specs.declared.lexeme.Keyword.{Keyword}
 use Rattle.nb_script.specs.declared.lexeme.Keyword.TheVariants as k'
 use Rattle.nb_script.specs.declared.lexeme.Symbol.TheVariants as sym'
-use Rattle.nb_script.specs.declared.lexeme.Content.{Content}
 use Rattle.nb_script.specs.declared.lexeme.Content.TheVariants as c
 use Rattle.nb_script.specs.Grammar.{Term, MakeTerm, RowTerm, AfterTerm}
 use Rattle.nb_script.specs.Grammar.{Phrase, Let, Set, Put, Add, Erase, Send, Publish, Reply, Timeout, Complete, Refuse, If, Phrases, Nil, Then, Braces, Brace, Otherwise, Nothing, Last, Chain}

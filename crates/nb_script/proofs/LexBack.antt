@@ -1,9 +1,7 @@
 -- The tokens of a printed text are those that were printed.
-use Rattle.std.proofs.Common.{◌≡◌, ℕ, ℤ, zero, suc, pos, negsuc, ◌+◌, ◌-◌, ◌≤◌, ◌<◌, ◌==◌, ◌||◌, ◌&&◌, Bool, true, false, List, [], ◌∷◌, ◌++◌, length, take, drop, take_while, map, Some, None, unwrap_or, refl, ap, sym, subst, ◌∙◌, arith, append_assoc, if◌then◌else◌}
+use Rattle.std.proofs.Common.{◌≡◌, ℕ, ℤ, zero, suc, pos, negsuc, ◌+◌, ◌-◌, ◌≤◌, ◌<◌, ◌==◌, Bool, true, false, List, [], ◌∷◌, ◌++◌, length, take, drop, take_while, map, unwrap_or, refl, ap, sym, subst, ◌∙◌, arith, append_assoc, if◌then◌else◌}
 use Rattle.std.specs.List.{list_all}
-use Rattle.std.specs.Fmt.{decimal}
-use Rattle.std.proofs.Math.Seq.{take-append_seam, drop-append_seam, take-length}
-use Rattle.std.proofs.lemmas.Bool.{eqb-true}
+use Rattle.std.proofs.Math.Seq.{take-append_seam, drop-append_seam}
 use Rattle.std.proofs.lemmas.List.{length-append, drop-drop}
 use Rattle.std.proofs.lemmas.List.Sums.{take_while-cons}
 use Rattle.nb_script.specs.declared.lexer.Piece.{Piece}
@@ -19,9 +17,9 @@ use Rattle.nb_script.specs.declared.lexeme.Content.{Content}
 use Rattle.nb_script.specs.declared.lexeme.Content.TheVariants as c
 use Rattle.nb_script.specs.Grammar.{ItemTerm}
 use Rattle.nb_script.specs.Spelling.{Every}
-use Rattle.nb_script.specs.Lexing.{is_letter, is_digit, is_word, is_blank, is_comment, most, number_of, piece, by_piece, with_token, lex, content_of, slice_of}
+use Rattle.nb_script.specs.Lexing.{is_letter, is_digit, is_word, is_blank, is_comment, most, piece, by_piece, with_token, lex, content_of, slice_of}
 use Rattle.nb_script.specs.Printing.{symbol_text, token_text, texts, all_of, item, printed}
-use Rattle.nb_script.proofs.Printable.{both, pieces, piece_cases, apart, not_comment, blank_gap, word_read, number_read, digits_back, symbol_read, symbol_back}
+use Rattle.nb_script.proofs.Printable.{pieces, piece_cases, apart, not_comment, blank_gap, word_read, number_read, digits_back, symbol_read, symbol_back}
 use Rattle.nb_script.proofs.Escapes.{is_plain, quoted_read, quoted_back}
 use Rattle.std.proofs.lemmas.Fmt.{decimal_is_IsNumeral}
 

@@ -1,5 +1,5 @@
 -- A text is that of one script at most, and is then not refused.
-use Rattle.std.proofs.Common.{◌≡◌, ℕ, suc, ◌+◌, ◌≤◌, arith, false, List, length, slice_get, Some, Ok, Err, refl, ap, sym, subst, ◌∙◌}
+use Rattle.std.proofs.Common.{◌≡◌, ℕ, suc, ◌+◌, ◌≤◌, arith, List, length, slice_get, Ok, Err, refl, ap, sym, ◌∙◌}
 use Rattle.nb_script.specs.declared.lexeme.Lexeme.{Lexeme}
 use Rattle.nb_script.specs.declared.lexer.Tail.TheVariants as tail
 use Rattle.nb_script.specs.declared.lexer.LexFault.{LexFault}
@@ -8,9 +8,9 @@ use Rattle.nb_script.specs.declared.script.ScriptFault.{ScriptFault}
 use Rattle.nb_script.specs.declared.script.ScriptKind.{ScriptKind}
 use Rattle.nb_script.specs.declared.script.ScriptKind.TheVariants as k
 use Rattle.nb_script.specs.Grammar.{ItemTerm}
-use Rattle.nb_script.specs.Spelling.{lexemes, script_marks, IsItem}
-use Rattle.nb_script.specs.Lexing.{lexed, lexemes_of}
-use Rattle.nb_script.specs.Reading.{Source, Outcome}
+use Rattle.nb_script.specs.Spelling.{script_marks, IsItem}
+use Rattle.nb_script.specs.Lexing.{lexemes_of}
+use Rattle.nb_script.specs.Reading.{Outcome}
 use Rattle.nb_script.specs.ReadingScript.{whole}
 use Rattle.nb_script.specs.Answer.{Starts, Spells}
 use Rattle.nb_script.specs.Parsing.{IsScriptText, IsUnreadable, IsStuck, IsFaultOf, IsFault}

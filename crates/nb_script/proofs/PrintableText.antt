@@ -1,5 +1,5 @@
 -- What the tokens of a text say can be printed.
-use Rattle.std.proofs.Common.{◌≡◌, ℕ, zero, suc, pos, ◌+◌, ◌-◌, ◌≤◌, ◌<◌, ◌==◌, ◌||◌, ◌&&◌, nat_le, nat_lt, Bool, true, false, List, [], ◌∷◌, ◌++◌, length, take, drop, take_while, map, Option, Some, None, option_map, unwrap_or, refl, ap, sym, subst, ◌∙◌, arith, if◌then◌else◌}
+use Rattle.std.proofs.Common.{◌≡◌, ℕ, zero, suc, pos, ◌+◌, ◌-◌, ◌≤◌, ◌<◌, ◌==◌, ◌||◌, ◌&&◌, nat_le, nat_lt, Bool, true, false, List, [], ◌∷◌, ◌++◌, length, take, drop, take_while, Option, Some, None, option_map, unwrap_or, refl, ap, sym, subst, ◌∙◌, arith, if◌then◌else◌}
 use Rattle.std.specs.List.{list_all}
 use Rattle.std.proofs.Math.Seq.{take-append_seam}
 use Rattle.std.proofs.lemmas.Bool.{eqb-true, leb-true, leb-false, le-leb}
@@ -8,14 +8,11 @@ use Rattle.std.proofs.lemmas.List.Sums.{take_while-cons}
 use Rattle.nb_script.specs.declared.lexer.Piece.{Piece}
 use Rattle.nb_script.specs.declared.lexer.Piece.TheVariants as piece'
 use Rattle.nb_script.specs.declared.lexer.Scanned.{Scanned}
-use Rattle.nb_script.specs.declared.lexer.TokenKind.{TokenKind}
 use Rattle.nb_script.specs.declared.lexer.TokenKind.TheVariants as kind
-use Rattle.nb_script.specs.declared.lexer.Token.{Token}
-use Rattle.nb_script.specs.declared.lexeme.Content.{Content}
 use Rattle.nb_script.specs.declared.lexeme.Content.TheVariants as c
 use Rattle.nb_script.specs.Spelling.{Every}
-use Rattle.nb_script.specs.Lexing.{is_letter, is_digit, is_word, is_blank, is_comment, is_escape, is_escaped, inside_len, counted, text_from, text_len, text_piece, most, value_after, number_of, number_piece, symbol_len, symbol_piece, escape, unescaped, within_quotes, piece, by_piece, lex, content_of, slice_of}
-use Rattle.nb_script.proofs.Printable.{both, pieces, piece_cases, comment_gap, blank_gap, word_token, number_token}
+use Rattle.nb_script.specs.Lexing.{is_letter, is_digit, is_word, is_blank, is_comment, is_escape, is_escaped, counted, text_from, text_len, text_piece, most, value_after, number_of, number_piece, symbol_len, symbol_piece, escape, unescaped, within_quotes, piece, by_piece, lex, content_of}
+use Rattle.nb_script.proofs.Printable.{pieces, comment_gap, blank_gap, word_token, number_token}
 use Rattle.nb_script.proofs.Escapes.{is_plain}
 use Rattle.nb_script.proofs.LexBack.{IsPrintable, contents}
 

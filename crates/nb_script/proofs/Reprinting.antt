@@ -1,5 +1,5 @@
 -- What is printed of a script that was read from a text.
-use Rattle.std.proofs.Common.{◌≡◌, ℕ, zero, suc, ◌≤◌, arith, Some, None, Result, Ok, Err, IfOk, List, [], ◌∷◌, length, slice_get, map, refl, ap, sym, subst, ◌∙◌}
+use Rattle.std.proofs.Common.{◌≡◌, ℕ, zero, suc, ◌≤◌, arith, Some, Result, Ok, Err, IfOk, List, [], ◌∷◌, length, slice_get, map, refl, ap, sym, subst, ◌∙◌}
 use Rattle.std.specs.Str.{IsUtf8}
 use Rattle.std.proofs.Math.Logic.{∥∥₁_map}
 use Rattle.nb_script.specs.declared.lexeme.Lexeme.{Lexeme}
@@ -13,7 +13,7 @@ use Rattle.nb_script.specs.Parsing.{IsScriptText}
 use Rattle.nb_script.specs.ReadBack.{IsReadBack}
 use Rattle.nb_script.specs.Reading.{Outcome}
 use Rattle.nb_script.specs.ReadingScript.{whole}
-use Rattle.nb_script.specs.Reads.{items_read, reads_tokens, reads}
+use Rattle.nb_script.specs.Reads.{items_read, reads}
 use Rattle.nb_script.specs.Answer.{Spells}
 use Rattle.nb_script.specs.Respelling.{placed, IsRespelled}
 use Rattle.nb_script.proofs.First.{found}

@@ -1,5 +1,5 @@
 -- What is read from a text is its script.
-use Rattle.std.proofs.Common.{◌≡◌, ℕ, suc, ◌≤◌, Some, None, Ok, Err, List, length, slice_get, refl, ap, sym, ◌∙◌}
+use Rattle.std.proofs.Common.{◌≡◌, ℕ, suc, ◌≤◌, Some, Ok, Err, List, length, slice_get, refl, ap, sym, ◌∙◌}
 use Rattle.std.proofs.Math.Logic.{∥∥₁_map, ∥∥₁_elim}
 use Rattle.std.specs.Str.{IsUtf8}
 use Rattle.nb_script.specs.declared.lexer.Tail.TheVariants as tail

@@ -3,12 +3,10 @@ use Rattle.std.proofs.Common.{◌≡◌, ℕ, zero, suc, ◌+◌, ◌≤◌, ◌
 use Rattle.std.proofs.lemmas.List.Sums.{take_while-cons}
 use Rattle.nb_script.specs.declared.lexer.Piece.{Piece}
 use Rattle.nb_script.specs.declared.lexer.Piece.TheVariants as piece'
-use Rattle.nb_script.specs.declared.lexer.Scanned.{Scanned}
 use Rattle.nb_script.specs.declared.lexer.Token.{Token}
-use Rattle.nb_script.specs.declared.lexer.TokenKind.TheVariants as kind
 use Rattle.nb_script.specs.Lexing.{is_letter, is_digit, is_word, is_blank, is_comment, text_len, text_piece, number_of, number_piece, symbol_len, symbol_piece, piece, by_piece, lex, lexed}
 use Rattle.nb_script.specs.Spans.{Rise}
-use Rattle.nb_script.proofs.Printable.{pieces, piece_cases, comment_gap, blank_gap, word_token, number_token}
+use Rattle.nb_script.proofs.Printable.{pieces, comment_gap, blank_gap, word_token, number_token}
 
 -- a token in front has bytes
 HasBytes : Piece → Type 0

@@ -1,4 +1,4 @@
-use Rattle.std.proofs.Common.{◌≡◌, ℕ, ◌≤◌, map, ap, sym, subst, suc, length, slice_get, ◌∙◌}
+use Rattle.std.proofs.Common.{◌≡◌, ◌≤◌, map, ap, sym, subst, suc, length, slice_get, ◌∙◌}
 use Rattle.nb_script.specs.Lexing.{lexed, lexeme_of}
 use Rattle.nb_script.specs.Parsing.{IsScriptText}
 use Rattle.nb_script.specs.Tree.{item, Fails}

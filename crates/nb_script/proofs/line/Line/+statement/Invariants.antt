@@ -1,4 +1,4 @@
-use Rattle.std.proofs.Common.{drop, ◌≡◌, ◌++◌, ◌∷◌, []}
+use Rattle.std.proofs.Common.{drop, ◌≡◌, ◌++◌, ◌∷◌}
 use Rattle.nb_script.specs.declared.lexeme.Content.TheVariants as c
 use Rattle.nb_script.specs.declared.lexeme.Symbol.TheVariants as sym
 use Rattle.nb_script.specs.Printing.{statements}
