@@ -17,4 +17,6 @@ pub use fault::PostFault;
 pub use post::{LIMIT, Post, PostClosed, PostRefusal};
 
 #[cfg(test)]
+mod opening_tests;
+#[cfg(test)]
 mod tests;

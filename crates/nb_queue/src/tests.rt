@@ -83,6 +83,24 @@ fn has(
     Ok(are(&post.list(alloc, &queue)?, standing) && are(&post.delayed(alloc)?, waiting))
 }
 
+fn next_of_copy(post: &Post<MemCells>) -> Result<u64, NoMemory> {
+    let copy = post.all()?;
+    Ok(copy.next)
+}
+
+fn next_of_closed(post: Post<MemCells>) -> u64 {
+    let PostClosed { post, .. } = post.close();
+    post.next
+}
+
+/// The number of the entry that comes due first, or 0.
+fn first_due(post: &Post<MemCells>) -> u64 {
+    match post.next_due() {
+        Some(waiting) => waiting.number,
+        None => 0,
+    }
+}
+
 /// The post that is found when the cells are opened again after a stop.
 fn reopened(alloc: Global, post: Post<MemCells>) -> Result<Post<MemCells>, PostFault> {
     let PostClosed { cells, .. } = post.close();
@@ -105,6 +123,45 @@ fn entries_stand_or_wait(rt: HostRuntime) -> Result<(), Fail> {
     assert_eq!(rt; put(alloc, &mut post, None)?, 1);
     assert_eq!(rt; put(alloc, &mut post, Some(moment(10)?))?, 2);
     assert!(rt; has(alloc, &post, &[1], &[2])?);
+    Ok(())
+}
+
+#[test]
+fn all_of_a_post_is_copied_and_handed_out(rt: HostRuntime) -> Result<(), Fail> {
+    let alloc = rt.alloc();
+    let mut post = started(alloc, MemCells::empty(alloc))?;
+    put(alloc, &mut post, None)?;
+    assert_eq!(rt; post.next(), 2);
+    assert_eq!(rt; next_of_copy(&post)?, 2);
+    assert_eq!(rt; next_of_closed(post), 2);
+    Ok(())
+}
+
+#[test]
+fn what_is_due_first_comes_first(rt: HostRuntime) -> Result<(), Fail> {
+    let alloc = rt.alloc();
+    let mut post = started(alloc, MemCells::empty(alloc))?;
+    let due = moment(10)?;
+    put(alloc, &mut post, Some(moment(20)?))?;
+    put(alloc, &mut post, Some(due))?;
+    put(alloc, &mut post, Some(due))?;
+    assert!(rt; has(alloc, &post, &[], &[2, 3, 1])?);
+    assert_eq!(rt; first_due(&post), 2);
+    Ok(())
+}
+
+#[test]
+fn released_and_removed_entries_dont_wait(rt: HostRuntime) -> Result<(), Fail> {
+    let alloc = rt.alloc();
+    let mut post = started(alloc, MemCells::empty(alloc))?;
+    put(alloc, &mut post, Some(moment(10)?))?;
+    put(alloc, &mut post, Some(moment(20)?))?;
+    assert!(rt; release(alloc, &mut post, 1)?);
+    assert!(rt; has(alloc, &post, &[1], &[2])?);
+    assert!(rt; remove(alloc, &mut post, 2)?);
+    assert!(rt; has(alloc, &post, &[1], &[])?);
+    assert_eq!(rt; first_due(&post), 0);
+    assert!(rt; has(alloc, &reopened(alloc, post)?, &[1], &[])?);
     Ok(())
 }
 
