@@ -17,3 +17,6 @@ mod verdicts;
 
 pub use handling::Handlers;
 pub use verdicts::evaluate;
+
+#[cfg(test)]
+mod tests;
