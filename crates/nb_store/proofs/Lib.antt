@@ -8,3 +8,4 @@ pub mod BatchLaws
 pub mod LinkLaws
 pub mod CommitLaws
 pub mod LookupLaws
+pub mod RowLaws

@@ -18,4 +18,6 @@ pub use fault::StoreFault;
 pub use store::{Store, StoreClosed, StoreRefusal};
 
 #[cfg(test)]
+mod commit_tests;
+#[cfg(test)]
 mod tests;

@@ -147,3 +147,130 @@ fn the_least_cell_outside_the_bounds_is_named(rt: HostRuntime) -> Result<(), Fai
     assert!(rt; is_damaged(alloc, 2, b"\0\0\0\x05Order\x02\0\0\0\x03A-2", SAGA)?);
     Ok(())
 }
+
+#[test]
+fn the_count_lies_from_1_to_its_limit(rt: HostRuntime) -> Result<(), Fail> {
+    let alloc = rt.alloc();
+    assert!(rt; is_damaged(alloc, 1, b"", b"\x01\0\0\0\0\0\0\0\0")?);
+    assert!(rt; is_damaged(alloc, 1, b"", b"\x01\x40\0\0\0\0\0\0\x01")?);
+    assert!(rt; is_damaged(alloc, 1, b"x", COUNT)?);
+    Ok(())
+}
+
+/// Whether another saga is damaged that has these bytes.
+fn saga_is_damaged(alloc: Global, bytes: &[u8]) -> Result<bool, NoMemory> {
+    is_damaged(alloc, 2, b"\0\0\0\x05Order\x02\0\0\0\x03A-2", bytes)
+}
+
+#[test]
+fn versions_of_sagas_lie_from_1_to_the_count(rt: HostRuntime) -> Result<(), Fail> {
+    let alloc = rt.alloc();
+    assert!(rt;
+        saga_is_damaged(
+            alloc,
+            b"\x01\0\0\0\x09Sales/1/1\0\0\0\0\0\0\0\0\0\0\0\0\0\0\0\x02p1\0\0\0\0"
+        )?
+    );
+    assert!(rt;
+        saga_is_damaged(
+            alloc,
+            b"\x01\0\0\0\x09Sales/1/1\0\0\0\0\0\0\0\x03\0\0\0\0\0\0\0\x02p1\0\0\0\0"
+        )?
+    );
+    assert!(rt;
+        !saga_is_damaged(
+            alloc,
+            b"\x01\0\0\0\x09Sales/1/1\0\0\0\0\0\0\0\x02\0\0\0\0\0\0\0\x02p1\0\0\0\0"
+        )?
+    );
+    Ok(())
+}
+
+#[test]
+fn ids_of_sagas_end_in_a_commit_and_an_index(rt: HostRuntime) -> Result<(), Fail> {
+    let alloc = rt.alloc();
+    assert!(rt;
+        saga_is_damaged(
+            alloc,
+            b"\x01\0\0\0\x09Sales/3/1\0\0\0\0\0\0\0\x02\0\0\0\0\0\0\0\x02p1\0\0\0\0"
+        )?
+    );
+    assert!(rt;
+        saga_is_damaged(
+            alloc,
+            b"\x01\0\0\0\x09Sales/0/1\0\0\0\0\0\0\0\x02\0\0\0\0\0\0\0\x02p1\0\0\0\0"
+        )?
+    );
+    assert!(rt;
+        saga_is_damaged(
+            alloc,
+            b"\x01\0\0\0\x09Sales/1/0\0\0\0\0\0\0\0\x02\0\0\0\0\0\0\0\x02p1\0\0\0\0"
+        )?
+    );
+    assert!(rt;
+        saga_is_damaged(
+            alloc,
+            b"\x01\0\0\0\x08Sal/01/1\0\0\0\0\0\0\0\x02\0\0\0\0\0\0\0\x02p1\0\0\0\0"
+        )?
+    );
+    assert!(rt;
+        saga_is_damaged(
+            alloc,
+            b"\x01\0\0\0\x05Sales\0\0\0\0\0\0\0\x02\0\0\0\0\0\0\0\x02p1\0\0\0\0"
+        )?
+    );
+    Ok(())
+}
+
+#[test]
+fn rows_and_records_keep_the_count(rt: HostRuntime) -> Result<(), Fail> {
+    let alloc = rt.alloc();
+    assert!(rt; is_damaged(alloc, 3, b"bob", b"\x01\0\0\0\0\0\0\0\0\0\0\0\0\0\0\0\x05")?);
+    assert!(rt;
+        is_damaged(
+            alloc,
+            4,
+            b"c2",
+            b"\x01\0\0\0\0\0\0\0\0\0\0\0\0\0\0\0\0\x01\0\0\0\0"
+        )?
+    );
+    assert!(rt;
+        is_damaged(
+            alloc,
+            4,
+            b"c2",
+            b"\x01\0\0\0\0\0\0\0\x03\0\0\0\0\0\0\0\0\x01\0\0\0\0"
+        )?
+    );
+    assert!(rt;
+        is_damaged(
+            alloc,
+            4,
+            b"",
+            b"\x01\0\0\0\0\0\0\0\x02\0\0\0\0\0\0\0\0\x01\0\0\0\0"
+        )?
+    );
+    Ok(())
+}
+
+/// A record that isn't sent, with so many messages.
+fn many_messages(alloc: Global, count: u16) -> Result<Vec<u8>, NoMemory> {
+    let [high, low] = count.to_be_bytes();
+    let mut bytes = Vec::from_slice(alloc, b"\x01\0\0\0\0\0\0\0\x02\0\0\0\0\0\0\0\0\0\0\0")?;
+    bytes.push(high)?;
+    bytes.push(low)?;
+    for _ in 0..count {
+        bytes.extend_from_slice(
+            b"\0\0\0\x01q\0\0\0\0\x01\0\0\0\x15NServiceBus.MessageId\0\0\0\x01a\0\0\0\0",
+        )?;
+    }
+    Ok(bytes)
+}
+
+#[test]
+fn a_record_has_at_most_4096_messages(rt: HostRuntime) -> Result<(), Fail> {
+    let alloc = rt.alloc();
+    assert!(rt; !is_damaged(alloc, 4, b"c2", many_messages(alloc, 4096)?.as_slice())?);
+    assert!(rt; is_damaged(alloc, 4, b"c2", many_messages(alloc, 4097)?.as_slice())?);
+    Ok(())
+}
