@@ -11,6 +11,7 @@ pub mod LocalVerdicts
 pub mod MeaningLaws
 pub mod Names
 pub mod NeverWrong
+pub mod Reaching
 pub mod RightBlocks
 pub mod RightPlan
 pub mod SagasApart

@@ -41,7 +41,7 @@ use Rattle.nb_eval.proofs.SameKeys.{Agree, agree-all}
 use Rattle.nb_eval.proofs.Names.{known_of}
 use Rattle.nb_eval.proofs.Local.{at_look, agree-left, agree-right, within-local}
 
-found-is : {A : Type 0} (o : Option A) (v : A) → found o ≡ Ok v → o ≡ Some v
+pub found-is : {A : Type 0} (o : Option A) (v : A) → found o ≡ Ok v → o ≡ Some v
 found-is None v e = absurd (cc)
 found-is (Some u) v e = cc
 
@@ -71,7 +71,7 @@ addressed : (o : Option Address) (saga : List ℕ) → addresses o saga ≡ true
 addressed None saga h = absurd (true≢false (sym h))
 addressed (Some a) saga h = (a, refl)
 
-role-addressed : (m : Incoming) (a : AnswerWord) (saga : List ℕ) → fits_role m (Answers a saga) ≡ true → (d : Address) × (m.address ≡ Some d)
+pub role-addressed : (m : Incoming) (a : AnswerWord) (saga : List ℕ) → fits_role m (Answers a saga) ≡ true → (d : Address) × (m.address ≡ Some d)
 role-addressed m Reply saga h = addressed m.address saga (and-right (not m.timeout) _ h)
 role-addressed m Timeout saga h = addressed m.address saga (and-right m.timeout _ h)
 

@@ -43,7 +43,7 @@ address-id a b true e d h = absurd (cc)
 address-id a b false true d h = absurd (cc)
 address-id a b false false d h = cc
 
-by-id : (t : Option (List ℕ)) (o : Option (List ℕ)) (d : Address) → address_by t o ≡ Some d → d.id ≡ unwrap_or o []
+pub by-id : (t : Option (List ℕ)) (o : Option (List ℕ)) (d : Address) → address_by t o ≡ Some d → d.id ≡ unwrap_or o []
 by-id None o d h = absurd (cc)
 by-id (Some s) None d h = absurd (cc)
 by-id (Some s) (Some i) d h = address-id (type_name s) i (is_empty (type_name s)) (is_empty i) d h
@@ -51,7 +51,7 @@ by-id (Some s) (Some i) d h = address-id (type_name s) i (is_empty (type_name s)
 some-is : (i j : Incoming) → Some i ≡ Some j → i ≡ j
 some-is i j e = cc
 
-incoming-address : (names : List (List ℕ)) (e : Message) (o : Option ℕ) (m : Incoming) → option_and_then (incoming_of e names) o ≡ Some m → m.address ≡ address_of e
+pub incoming-address : (names : List (List ℕ)) (e : Message) (o : Option ℕ) (m : Incoming) → option_and_then (incoming_of e names) o ≡ Some m → m.address ≡ address_of e
 incoming-address names e None m h = absurd (cc)
 incoming-address names e (Some n) m h = named (slice_get names n) h
   where
@@ -61,7 +61,7 @@ incoming-address names e (Some n) m h = named (slice_get names n) h
 
 -- ---- good blocks have bodies without faults
 
-bodies-fine : (ms : List MessageType) (types : _) (bs : List BlockTerm) → AllByRecursion (IsGoodBlock ms types) bs → AllByRecursion (λ (b : BlockTerm). (g : Sight) × (braces_faults ms b.body g ≡ [])) bs
+pub bodies-fine : (ms : List MessageType) (types : _) (bs : List BlockTerm) → AllByRecursion (IsGoodBlock ms types) bs → AllByRecursion (λ (b : BlockTerm). (g : Sight) × (braces_faults ms b.body g ≡ [])) bs
 bodies-fine ms types [] h = tt
 bodies-fine ms types (b ∷ bs) h = ((sight (Some h.0.declared) (role_sight types b.role), h.0.body), bodies-fine ms types bs h.1)
 
@@ -70,7 +70,7 @@ rows-same look l [] h = refl
 rows-same look l (t ∷ ts) h =
     ap (λ s. row_write t.name t.value s ++ row_writes l ts) (sym h.0) ∙ ap (λ r. row_write t.name t.value (look (key.Row t.name)) ++ r) (rows-same look l ts h.1)
 
-done-is : {A : Type 0} (Q : A → Type 0) (x : Answer A) (a : A) → IfDone Q x → x ≡ Ok a → Q a
+pub done-is : {A : Type 0} (Q : A → Type 0) (x : Answer A) (a : A) → IfDone Q x → x ≡ Ok a → Q a
 done-is Q x a q e = subst (λ y. IfDone Q y) e q
 
 module _ (items : List ItemTerm) (rules : script_faults items ≡ []) (e : Message) (at : ℕ) (look l : Key → Seen) where

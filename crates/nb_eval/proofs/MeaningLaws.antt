@@ -50,7 +50,7 @@ all-step : (x : List ℕ) (xs ys : List (List ℕ)) → AllByRecursion (λ n. Is
 all-step x xs [] h = tt
 all-step x xs (y ∷ ys) h = (step-among y x xs h.0, all-step x xs ys h.1)
 
-all-among : (xs : List (List ℕ)) → AllByRecursion (λ n. IsAmong n xs) xs
+pub all-among : (xs : List (List ℕ)) → AllByRecursion (λ n. IsAmong n xs) xs
 all-among [] = tt
 all-among (x ∷ xs) = ((0, refl), all-step x xs xs (all-among xs))
 

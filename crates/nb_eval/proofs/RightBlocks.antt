@@ -76,7 +76,7 @@ head-kind a b xs ys e = ap (λ (d : Declared). d.kind) (heads a b xs ys e)
 sight-corr : (ts : List (List ℕ)) (j : Instance) (y : SagaType) → instance_sight ts j ≡ type_sight y → kind_of j.corr ≡ y.correlation.kind
 sight-corr ts j y e = head-kind (record { name = j.property; kind = kind_of j.corr }) y.correlation (declared j.fields) (state_declared y.fields) (ap (λ (g : SagaSight). g.fields) e)
 
-name-is : (name : List ℕ) (ts : List SagaType) (y : SagaType) → saga_named name ts ≡ Some y → y.name ≡ name
+pub name-is : (name : List ℕ) (ts : List SagaType) (y : SagaType) → saga_named name ts ≡ Some y → y.name ≡ name
 name-is name [] y e = absurd (cc)
 name-is name (u ∷ ts) y e =
     (elim (bytes_eq u.name name) as (λ b. bytes_eq u.name name ≡ b → cond b (Some u) (saga_named name ts) ≡ Some y → y.name ≡ name) [

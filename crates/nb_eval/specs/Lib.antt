@@ -7,4 +7,5 @@ pub mod Blocks
 pub mod Faults
 pub mod Verdicts
 pub mod Meanings
+pub mod Reach
 pub mod Walks

@@ -3,6 +3,9 @@ ghost use Rattle.std.specs.Prelude.{◌≡◌, ◌≢◌, ◌<◌, ◌^◌, ℕ,
 ghost use Rattle.nb_base.specs.Meanings.{IsMeaning};
 ghost use Rattle.nb_base.specs.Messages.{Message};
 ghost use Rattle.nb_base.specs.Shown.{Stored, shown, seen};
+ghost use Rattle.nb_base.specs.Sound.{IsSoundStored};
+ghost use Rattle.nb_base.specs.declared.plan.Plan.{Plan};
+ghost use Rattle.nb_base.specs.declared.plan.Verdict.TheVariants.{Done};
 ghost use Rattle.nb_base.specs.declared.saga_row.Seen.{Seen};
 ghost use Rattle.nb_base.specs.declared.value.Field.{Field};
 ghost use Rattle.nb_base.specs.declared.value.Key.{Key};
@@ -12,6 +15,7 @@ ghost use Rattle.nb_check.specs.Declarations.{sagas};
 ghost use Rattle.nb_check.specs.Meets.{incoming, met_from};
 ghost use Rattle.nb_check.specs.declared.incoming.Incoming.{Incoming};
 ghost use Rattle.nb_eval.specs.Meanings.{meaning_of, FitsLook};
+ghost use Rattle.nb_eval.specs.Reach.{AreReached};
 ghost use Rattle.nb_eval.specs.Verdicts.{world_at, handled, verdict_over};
 ghost use Rattle.nb_eval.specs.Worlds.{seen_in};
 ghost use Rattle.nb_eval.specs.declared.stop.Stop.TheVariants.{Wrong};
@@ -37,6 +41,14 @@ pub fn law_reads(c: &Checked)
 /// Two tables that show the same at the message's keys have the same verdict.
 pub fn law_same_reads(c: &Checked)
     ensures { (t u : Stored) (e : Message) (at : ℕ) → seen t (keys_read (script c.now) e) ≡ seen u (keys_read (script c.now) e) → verdict_over (script c.now) (shown t) e at ≡ verdict_over (script c.now) (shown u) e at }
+{
+    let _rules = c.items();
+}
+
+/// A plan writes nowhere else than where the message's keys lead: to their rows, to their correlation values, and to the
+/// places of the sagas that have their ids.
+pub fn law_writes(c: &Checked)
+    ensures { (t : Stored) → IsSoundStored t → (e : Message) (at : ℕ) (plan : Plan) → verdict_over (script c.now) (shown t) e at ≡ Done plan → AreReached t (keys_read (script c.now) e) plan }
 {
     let _rules = c.items();
 }

@@ -1,7 +1,7 @@
 use crate::evaluate;
-use nb_base::{Envelope, Intent, Items, Moment, NoMemory, Text, Verdict, Write};
+use nb_base::{Envelope, Intent, Items, Moment, NoMemory, Target, Text, Verdict, Write};
 use nb_check::{Checked, check};
-use nb_headers::names::ENCLOSED_MESSAGE_TYPES;
+use nb_headers::names::{ENCLOSED_MESSAGE_TYPES, REPLY_TO_ADDRESS};
 use nb_script::parse;
 use std::alloc::Global;
 use std::test::Fail;
@@ -79,14 +79,40 @@ fn shown(alloc: Global, verdict: &Verdict) -> Result<String, NoMemory> {
     Ok(out)
 }
 
-/// What a script makes of a message where nothing is stored.
+/// The verdict where nothing is stored.
 #[tactic(auto, using(crate::proofs::MeaningLaws::nothing_read))]
-fn made(alloc: Global, script: &str, kind: &str, body: &str) -> Result<String, NoMemory> {
+fn verdict(alloc: Global, script: &str, e: &Envelope) -> Result<Verdict, NoMemory> {
     let c = checked(alloc, script)?;
-    let e = message(alloc, kind, body)?;
     let reads = Items::new(alloc);
-    let outcome = evaluate(alloc, &c, &e, Moment::FIRST, reads)?;
-    shown(alloc, &outcome.verdict)
+    let outcome = evaluate(alloc, &c, e, Moment::FIRST, reads)?;
+    Ok(outcome.verdict)
+}
+
+/// What a script makes of a message where nothing is stored.
+fn made(alloc: Global, script: &str, kind: &str, body: &str) -> Result<String, NoMemory> {
+    let e = message(alloc, kind, body)?;
+    shown(alloc, &verdict(alloc, script, &e)?)
+}
+
+/// To whom the first message of a plan replies.
+fn replied_to(verdict: &Verdict) -> &str {
+    match verdict {
+        Verdict::Done(plan) => match plan.intents.as_slice().first() {
+            Some(Intent {
+                target: Target::Reply { to },
+                ..
+            }) => to.as_str(),
+            _ => "",
+        },
+        Verdict::Fault(_) => "",
+    }
+}
+
+/// A message without fields that is answered there.
+fn asked_from(alloc: Global, address: &str) -> Result<Envelope, NoMemory> {
+    let mut e = message(alloc, "A", "{}")?;
+    e.set_header(alloc, REPLY_TO_ADDRESS, Text::new(alloc, address)?)?;
+    Ok(e)
 }
 
 /// What a handler with this body makes of a message with a text and a number.
@@ -248,6 +274,15 @@ fn messages_that_no_block_takes(rt: HostRuntime) -> Result<(), Fail> {
         made(alloc, script, "A", "{}")?.as_str(),
         "NoReplyAddress: there is no address to reply to"
     );
+    Ok(())
+}
+
+#[test]
+fn a_reply_goes_to_its_address(rt: HostRuntime) -> Result<(), Fail> {
+    let alloc = rt.alloc();
+    let script = "message A { } message B { } handler A { reply B { }; }";
+    let e = asked_from(alloc, "Web")?;
+    assert_eq!(rt; replied_to(&verdict(alloc, script, &e)?), "Web");
     Ok(())
 }
 
