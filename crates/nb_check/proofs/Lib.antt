@@ -4,4 +4,5 @@ pub mod MetLaws
 pub mod SendLaws
 pub mod SentLaws
 pub mod SightLaws
+pub mod TableLaws
 pub mod TypeTexts

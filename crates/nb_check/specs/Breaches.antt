@@ -1,5 +1,5 @@
 -- Rules that a script breaks, with the places where it does, and the first of them.
-use Rattle.std.specs.Prelude.{ℕ, List, [], ◌∷◌, ◌++◌, Bool, not, ◌&&◌, ◌||◌, ◌==◌, bytes_eq, nat_lt, if◌then◌else◌, Option, Some, None, is_some}
+use Rattle.std.specs.Prelude.{◌≡◌, ℕ, List, [], ◌∷◌, ◌++◌, Bool, not, ◌&&◌, ◌||◌, ◌==◌, bytes_eq, nat_lt, if◌then◌else◌, Option, Some, None, is_some}
 use Rattle.nb_check.specs.declared.breach.Breach.{Breach}
 use Rattle.nb_check.specs.declared.breach.CheckKind.{CheckKind}
 use Rattle.nb_check.specs.declared.breach.CheckKind.TheVariants.{MessageTwice, SagaTwice, FieldTwice, BadCorrelation, BadRevision, UnknownMessage, PartTwice, UnknownField, FieldMissing, NoSaga, SetsCorrelation, NoTimeoutPart, NameTwice, UnknownName, RowName, WrongType, NoMemory}
@@ -24,6 +24,10 @@ again rule name (p ∷ ps) = unless_true (not (bytes_eq p.name name)) p.at rule 
 abbrev pub twice : CheckKind → List Placed → List Breach
 twice rule [] = []
 twice rule (p ∷ ps) = again rule p.name ps ++ twice rule ps
+
+-- no name stands twice
+abbrev pub AllDiffer : List Placed → Type 0
+AllDiffer ps = (rule : CheckKind) → twice rule ps ≡ []
 
 -- ---- the first
 

@@ -11,3 +11,4 @@ pub mod Meets
 pub mod Rules
 pub mod Sends
 pub mod Statements
+pub mod Tables

@@ -1,9 +1,11 @@
 //! Rules that a script breaks, and the first of them.
-ghost use Rattle.std.specs.Prelude.{◌≡◌, ◌++◌, None, OnOk};
+ghost use Rattle.std.specs.Prelude.{◌≡◌, ◌++◌, true, None, IfOk, OnOk};
 ghost use Rattle.nb_check.specs.Breaches as spec;
-ghost use Rattle.nb_check.specs.Breaches.{again, twice, rank, is_before, first_of};
+ghost use Rattle.nb_check.specs.Breaches.{again, twice, AllDiffer, rank, is_before, first_of};
 
-use nb_base::{Items, NoMemory, Text};
+use crate::tables::is_among;
+use nb_base::{ByName, Copied, Items, NoMemory, Text};
+use std::alloc::Global;
 use thiserror::Error;
 
 /// The rules, in the order in which they are reported at one place.
@@ -114,12 +116,8 @@ fn want_others(
     Ok(())
 }
 
-/// Adds each name that stands before too.
-pub(crate) fn want_distinct(
-    breaches: &mut Breaches,
-    rule: CheckKind,
-    names: &[Placed],
-) -> Result<(), NoMemory>
+/// Adds each two that have one name.
+fn want_pairs(breaches: &mut Breaches, rule: CheckKind, names: &[Placed]) -> Result<(), NoMemory>
     ensures { OnOk result (breaches.new ≡ breaches.old ++ twice rule names.now) }
 {
     let mut left = names;
@@ -128,6 +126,36 @@ pub(crate) fn want_distinct(
         left = others;
     }
     Ok(())
+}
+
+/// Whether no name stands twice.
+fn all_differ(alloc: Global, names: &[Placed]) -> Result<bool, NoMemory>
+    ensures { IfOk result (λ b. b ≡ true → AllDiffer names.now) }
+{
+    let mut before = ByName::new(alloc);
+    for p in names {
+        if is_among(&before, &p.name) {
+            return Ok(false);
+        }
+        let name = p.name.copy()?;
+        before.insert(name, p.at)?;
+    }
+    Ok(true)
+}
+
+/// Adds each name that stands before too. Names that differ, as they mostly do, are not compared two by two.
+pub(crate) fn want_distinct(
+    alloc: Global,
+    breaches: &mut Breaches,
+    rule: CheckKind,
+    names: &[Placed],
+) -> Result<(), NoMemory>
+    ensures { OnOk result (breaches.new ≡ breaches.old ++ twice rule names.now) }
+{
+    if all_differ(alloc, names)? {
+        return Ok(());
+    }
+    want_pairs(breaches, rule, names)
 }
 
 fn rank(rule: CheckKind) -> u32

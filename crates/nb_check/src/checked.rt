@@ -21,6 +21,7 @@ use crate::key_set::read_set;
 use crate::met::{Blocks, met_numbers};
 use crate::rules::script_faults;
 use crate::sends::sends;
+use crate::tables::MessageTable;
 use crate::types::{MessageType, SagaType, messages, names_of, sagas};
 use nb_base::{Envelope, Fields, Items, Keys, Names, NoMemory, SagaRow, Text};
 use nb_script::Script;
@@ -58,7 +59,7 @@ impl Model for Checked {
 /// The breach that no other is before.
 fn first_breach(
     alloc: Global,
-    types: &[MessageType],
+    types: &MessageTable,
     items: &[Item],
 ) -> Result<Option<Breach>, NoMemory>
     requires { types.now ≡ messages (script items.now) }
@@ -75,10 +76,11 @@ pub fn check(alloc: Global, script: Script) -> Result<Checked, CheckFault>
     ensures rules { IfOk result (λ c. script_faults (items_of script) ≡ []) }
     ensures refused { IfErr result (λ f. IsCheckFault script f) }
 {
-    let types = messages(alloc, script.items())?;
-    if let Some(breach) = first_breach(alloc, types.as_slice(), script.items())? {
+    let types = MessageTable::new(alloc, messages(alloc, script.items())?)?;
+    if let Some(breach) = first_breach(alloc, &types, script.items())? {
         return Err(CheckFault::of(&script, breach));
     }
+    let types = types.into_types();
     let names = names_of(alloc, types.as_slice())?;
     let kinds = sagas(alloc, script.items())?;
     let sends = sends(alloc, script.items())?;

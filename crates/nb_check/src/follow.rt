@@ -3,29 +3,18 @@ ghost use Rattle.std.specs.Prelude.{◌≡◌, ◌++◌, map, take, IfOk, OnOk, 
 ghost use Rattle.nb_script.specs.Tree as tree;
 ghost use Rattle.nb_script.specs.Tree.{phrase, block, otherwise};
 ghost use Rattle.nb_check.specs.Statements as spec;
-ghost use Rattle.nb_check.specs.Statements.{fields_of, placed_args, is_given, all_given, takes, args_faults, missing_faults, made_faults, make_faults, value_faults, row_faults, delay_faults, needs_saga, originator_faults, set_faults, has_name, timeout_faults, after, phrase_faults, phrases_faults, braces_faults, otherwise_faults};
+ghost use Rattle.nb_check.specs.Statements.{placed_args, all_given, takes, args_faults, missing_faults, made_faults, make_faults, value_faults, row_faults, delay_faults, needs_saga, originator_faults, set_faults, timeout_faults, after, phrase_faults, phrases_faults, braces_faults, otherwise_faults};
 
 use crate::breach::{Breaches, CheckKind, Placed, blame, want_distinct, want_true};
-use crate::sight::{Judgement, Local, SagaSight, Sight, kind_in, local_in, want};
-use crate::types::{Declared, MessageType, type_text};
+use crate::scope::{SagaScope, Scope};
+use crate::sight::{Judgement, Local, want};
+use crate::tables::{FieldTable, MessageTable, given_names, is_among};
+use crate::types::{Declared, type_text};
 use nb_base::{Copied, Items, NoMemory, Text};
 use nb_script::expr::{Arg, Expr, Make, TypeName};
 use nb_script::item::FieldKind;
 use nb_script::stmt::{After, Block, Else, RowName, Stmt};
-use sqlite_items::Items as Rows;
 use std::alloc::Global;
-
-/// The fields of the first message of this name.
-pub(crate) fn fields_of<'a>(name: &Text, messages: &'a [MessageType]) -> Option<&'a Items<Declared>>
-    ensures { option_copied result ≡ fields_of name.now messages.now }
-{
-    for m in messages {
-        if m.name == *name {
-            return Some(&m.fields);
-        }
-    }
-    None
-}
 
 fn placed_args(alloc: Global, args: &[Arg]) -> Result<Items<Placed>, NoMemory>
     ensures { IfOk result (λ ps. ps ≡ placed_args (map tree.arg args.now)) }
@@ -38,26 +27,16 @@ fn placed_args(alloc: Global, args: &[Arg]) -> Result<Items<Placed>, NoMemory>
     Ok(placed)
 }
 
-fn is_given(name: &Text, args: &[Arg]) -> bool
-    ensures { result ≡ is_given name.now (map tree.arg args.now) }
+fn all_given(alloc: Global, declared: &[Declared], args: &[Arg]) -> Result<bool, NoMemory>
+    ensures { IfOk result (λ b. b ≡ all_given declared.now (map tree.arg args.now)) }
 {
-    for a in args {
-        if a.name == *name {
-            return true;
-        }
-    }
-    false
-}
-
-fn all_given(declared: &[Declared], args: &[Arg]) -> bool
-    ensures { result ≡ all_given declared.now (map tree.arg args.now) }
-{
+    let given = given_names(alloc, args)?;
     for d in declared {
-        if !is_given(&d.name, args) {
-            return false;
+        if !is_among(&given, &d.name) {
+            return Ok(false);
         }
     }
-    true
+    Ok(true)
 }
 
 fn want_field(
@@ -76,7 +55,7 @@ fn want_field(
 
 fn want_field_in(
     breaches: &mut Breaches,
-    declared: Option<&Items<Declared>>,
+    declared: Option<&FieldTable>,
     name: &Text,
     at: u32,
     e: Judgement,
@@ -85,13 +64,14 @@ fn want_field_in(
 {
     match declared {
         None => Ok(()),
-        Some(declared) => want_field(breaches, kind_in(name, declared.as_slice()), at, e),
+        Some(declared) => want_field(breaches, declared.kind_in(name), at, e),
     }
 }
 
 fn want_all(
+    alloc: Global,
     breaches: &mut Breaches,
-    declared: Option<&Items<Declared>>,
+    declared: Option<&FieldTable>,
     make: &Make,
 ) -> Result<(), NoMemory>
     ensures { OnOk result (breaches.new ≡ breaches.old ++ missing_faults (option_copied declared.entry) (tree.make make.now)) }
@@ -99,25 +79,14 @@ fn want_all(
     match declared {
         None => blame(breaches, make.name.at, CheckKind::UnknownMessage),
         Some(declared) => {
-            let holds = all_given(declared.as_slice(), make.args.as_slice());
+            let holds = all_given(alloc, declared.as_slice(), make.args.as_slice())?;
             want_true(breaches, holds, make.name.at, CheckKind::FieldMissing)
         }
     }
 }
 
-fn has_name(name: &Text, names: &[Text]) -> bool
-    ensures { result ≡ has_name name.now names.now }
-{
-    for n in names {
-        if *n == *name {
-            return true;
-        }
-    }
-    false
-}
-
-fn want_saga(breaches: &mut Breaches, at: u32, saga: &Option<SagaSight>) -> Result<(), NoMemory>
-    ensures { OnOk result (breaches.new ≡ breaches.old ++ needs_saga at saga.now) }
+fn want_saga(breaches: &mut Breaches, at: u32, saga: Option<&SagaScope>) -> Result<(), NoMemory>
+    ensures { OnOk result (breaches.new ≡ breaches.old ++ needs_saga at (option_copied saga.entry)) }
 {
     match saga {
         None => blame(breaches, at, CheckKind::NoSaga),
@@ -129,9 +98,9 @@ fn want_originator(
     breaches: &mut Breaches,
     at: u32,
     originator_at: Option<u32>,
-    saga: &Option<SagaSight>,
+    saga: Option<&SagaScope>,
 ) -> Result<(), NoMemory>
-    ensures { OnOk result (breaches.new ≡ breaches.old ++ originator_faults at originator_at saga.now) }
+    ensures { OnOk result (breaches.new ≡ breaches.old ++ originator_faults at originator_at (option_copied saga.entry)) }
 {
     match originator_at {
         None => Ok(()),
@@ -145,18 +114,18 @@ fn want_set(
     field_at: u32,
     field: &Text,
     e: Judgement,
-    saga: &Option<SagaSight>,
+    saga: Option<&SagaScope>,
 ) -> Result<(), NoMemory>
-    ensures { OnOk result (breaches.new ≡ breaches.old ++ set_faults at field_at field.now e saga.now) }
+    ensures { OnOk result (breaches.new ≡ breaches.old ++ set_faults at field_at field.now e (option_copied saga.entry)) }
 {
     match saga {
         None => blame(breaches, at, CheckKind::NoSaga),
         Some(saga) => {
-            let holds = !(saga.correlation == *field);
+            let holds = !saga.correlates_by(field);
             want_true(breaches, holds, field_at, CheckKind::SetsCorrelation)?;
             want_field(
                 breaches,
-                kind_in(field, saga.fields.as_slice()),
+                saga.kind_in(field),
                 field_at,
                 e,
             )?;
@@ -169,29 +138,21 @@ fn want_timeout(
     alloc: Global,
     breaches: &mut Breaches,
     name: &TypeName,
-    saga: &Option<SagaSight>,
+    saga: Option<&SagaScope>,
 ) -> Result<(), NoMemory>
-    ensures { OnOk result (breaches.new ≡ breaches.old ++ timeout_faults name.now saga.now) }
+    ensures { OnOk result (breaches.new ≡ breaches.old ++ timeout_faults name.now (option_copied saga.entry)) }
 {
     match saga {
         None => Ok(()),
         Some(saga) => {
             let text = type_text(alloc, name)?;
-            let holds = has_name(&text, saga.timeouts.as_slice());
+            let holds = saga.has_timeout(&text);
             want_true(breaches, holds, name.at, CheckKind::NoTimeoutPart)
         }
     }
 }
 
-fn cut(names: &mut Rows<Local>, count: usize)
-    ensures { names.new ≡ take count names.old }
-{
-    while names.len() > count {
-        let _last = names.pop();
-    }
-}
-
-impl Sight {
+impl<'a> Scope<'a> {
     fn want_value(&self, k: FieldKind, e: &Expr, breaches: &mut Breaches) -> Result<(), NoMemory>
         ensures { OnOk result (breaches.new ≡ breaches.old ++ value_faults k (tree.tree e.now) self.now) }
     {
@@ -219,7 +180,7 @@ impl Sight {
 
     fn want_args(
         &self,
-        declared: Option<&Items<Declared>>,
+        declared: Option<&FieldTable>,
         args: &[Arg],
         breaches: &mut Breaches,
     ) -> Result<(), NoMemory>
@@ -235,15 +196,15 @@ impl Sight {
     fn want_made(
         &self,
         alloc: Global,
-        declared: Option<&Items<Declared>>,
+        declared: Option<&FieldTable>,
         make: &Make,
         breaches: &mut Breaches,
     ) -> Result<(), NoMemory>
         ensures { OnOk result (breaches.new ≡ breaches.old ++ made_faults (option_copied declared.entry) (tree.make make.now) self.now) }
     {
-        want_all(breaches, declared, make)?;
+        want_all(alloc, breaches, declared, make)?;
         let placed = placed_args(alloc, make.args.as_slice())?;
-        want_distinct(breaches, CheckKind::FieldTwice, placed.as_slice())?;
+        want_distinct(alloc, breaches, CheckKind::FieldTwice, placed.as_slice())?;
         self.want_args(declared, make.args.as_slice(), breaches)?;
         Ok(())
     }
@@ -251,14 +212,14 @@ impl Sight {
     fn want_make(
         &self,
         alloc: Global,
-        messages: &[MessageType],
+        messages: &MessageTable,
         make: &Make,
         breaches: &mut Breaches,
     ) -> Result<(), NoMemory>
         ensures { OnOk result (breaches.new ≡ breaches.old ++ make_faults messages.now (tree.make make.now) self.now) }
     {
         let name = type_text(alloc, &make.name)?;
-        self.want_made(alloc, fields_of(&name, messages), make, breaches)
+        self.want_made(alloc, messages.fields_of(&name), make, breaches)
     }
 
     /// Adds the rules that a `let` breaks, and brings its name into sight.
@@ -273,10 +234,10 @@ impl Sight {
         ensures after { OnOk result (self.new ≡ spec.after_let name.now (tree.tree value.now) self.old) }
     {
         let judged = self.judge(value, breaches)?;
-        let is_new = local_in(name, self.names.as_slice()).is_none();
+        let is_new = self.local(name).is_none();
         want_true(breaches, is_new, name_at, CheckKind::NameTwice)?;
         let name = name.copy()?;
-        self.names.push(Local {
+        self.bring(Local {
             name,
             kind: judged.kind,
         })?;
@@ -294,7 +255,7 @@ impl Sight {
         ensures { OnOk result (breaches.new ≡ breaches.old ++ spec.set_value_faults at field_at field.now (tree.tree value.now) self.now) }
     {
         let judged = self.judge(value, breaches)?;
-        want_set(breaches, at, field_at, field, judged, &self.saga)?;
+        want_set(breaches, at, field_at, field, judged, self.saga())?;
         Ok(())
     }
 
@@ -309,7 +270,7 @@ impl Sight {
     fn want_send(
         &self,
         alloc: Global,
-        messages: &[MessageType],
+        messages: &MessageTable,
         after: &Option<After>,
         make: &Make,
         breaches: &mut Breaches,
@@ -324,7 +285,7 @@ impl Sight {
     fn want_reply(
         &self,
         alloc: Global,
-        messages: &[MessageType],
+        messages: &MessageTable,
         at: u32,
         originator_at: Option<u32>,
         make: &Make,
@@ -332,7 +293,7 @@ impl Sight {
     ) -> Result<(), NoMemory>
         ensures { OnOk result (breaches.new ≡ breaches.old ++ spec.reply_faults messages.now at originator_at (tree.make make.now) self.now) }
     {
-        want_originator(breaches, at, originator_at, &self.saga)?;
+        want_originator(breaches, at, originator_at, self.saga())?;
         self.want_make(alloc, messages, make, breaches)?;
         Ok(())
     }
@@ -340,7 +301,7 @@ impl Sight {
     fn want_timed(
         &self,
         alloc: Global,
-        messages: &[MessageType],
+        messages: &MessageTable,
         at: u32,
         delay: &Expr,
         make: &Make,
@@ -348,9 +309,9 @@ impl Sight {
     ) -> Result<(), NoMemory>
         ensures { OnOk result (breaches.new ≡ breaches.old ++ spec.timed_faults messages.now at (tree.tree delay.now) (tree.make make.now) self.now) }
     {
-        want_saga(breaches, at, &self.saga)?;
+        want_saga(breaches, at, self.saga())?;
         self.want_value(FieldKind::Int, delay, breaches)?;
-        want_timeout(alloc, breaches, &make.name, &self.saga)?;
+        want_timeout(alloc, breaches, &make.name, self.saga())?;
         self.want_make(alloc, messages, make, breaches)?;
         Ok(())
     }
@@ -360,7 +321,7 @@ impl Sight {
     fn follow(
         &mut self,
         alloc: Global,
-        messages: &[MessageType],
+        messages: &MessageTable,
         d: &Stmt,
         breaches: &mut Breaches,
     ) -> Result<(), NoMemory>
@@ -401,7 +362,7 @@ impl Sight {
                 make,
                 ..
             } => self.want_timed(alloc, messages, *at, delay, make, breaches),
-            Stmt::Complete { at, .. } => want_saga(breaches, *at, &self.saga),
+            Stmt::Complete { at, .. } => want_saga(breaches, *at, self.saga()),
             Stmt::Refuse { text, .. } => self.want_value(FieldKind::Text, text, breaches),
             Stmt::If {
                 test,
@@ -422,18 +383,18 @@ impl Sight {
     pub(crate) fn follow_block(
         &mut self,
         alloc: Global,
-        messages: &[MessageType],
+        messages: &MessageTable,
         b: &Block,
         breaches: &mut Breaches,
     ) -> Result<(), NoMemory>
         ensures broken { OnOk result (breaches.new ≡ breaches.old ++ braces_faults messages.now (block b.now) self.old) }
         ensures after { OnOk result (self.new ≡ self.old) }
     {
-        let count = self.names.len();
+        let count = self.count();
         for d in b.body.as_slice() {
             self.follow(alloc, messages, d, breaches)?;
         }
-        cut(&mut self.names, count);
+        self.cut(count);
         Ok(())
     }
 
@@ -441,7 +402,7 @@ impl Sight {
     fn follow_else(
         &mut self,
         alloc: Global,
-        messages: &[MessageType],
+        messages: &MessageTable,
         o: &Else,
         breaches: &mut Breaches,
     ) -> Result<(), NoMemory>

@@ -7,9 +7,10 @@ ghost use Rattle.nb_check.specs.Kinds.{field_kind, judgement, local_in, is_messa
 
 use crate::breach::{Breaches, CheckKind, blame, want_true};
 use crate::known::is_join;
+use crate::scope::Scope;
 use crate::sight::{
-    Judgement, Sight, call_kind, constant_kind, is_kind, kind_in, local_in, made_by, message_kind,
-    prefix_kind, refuse_text, saga_kind, taken_by, want, want_operands,
+    Judgement, call_kind, constant_kind, is_kind, made_by, prefix_kind, refuse_text,
+    taken_by, want, want_operands,
 };
 use nb_base::{NoMemory, Text};
 use nb_script::expr::{Constant, Expr, Function, Holder};
@@ -61,16 +62,7 @@ fn want_piece(breaches: &mut Breaches, kind: Option<FieldKind>, at: u32) -> Resu
     }
 }
 
-impl Sight {
-    fn field_kind(&self, holder: Holder, name: &Text) -> Option<FieldKind>
-        ensures { result ≡ field_kind holder name.now self.now }
-    {
-        match holder {
-            Holder::Message => message_kind(name, &self.message),
-            Holder::Saga => saga_kind(name, &self.saga),
-        }
-    }
-
+impl<'a> Scope<'a> {
     fn want_piece_field(
         &self,
         holder: Holder,
@@ -81,7 +73,7 @@ impl Sight {
         ensures { OnOk result (breaches.new ≡ breaches.old ++ piece_field holder name.now at self.now) }
     {
         match holder {
-            Holder::Message => want_piece(breaches, message_kind(name, &self.message), at),
+            Holder::Message => want_piece(breaches, self.message_kind(name), at),
             Holder::Saga => blame(breaches, at, CheckKind::RowName),
         }
     }
@@ -136,10 +128,10 @@ impl Sight {
     ) -> Result<(), NoMemory>
         ensures { OnOk result (breaches.new ≡ breaches.old ++ message_field_faults name_at name.now self.now.message) }
     {
-        match &self.message {
+        match self.message() {
             None => Ok(()),
             Some(declared) => {
-                let kind = kind_in(name, declared.as_slice());
+                let kind = declared.kind_in(name);
                 want_true(breaches, kind.is_some(), name_at, CheckKind::UnknownField)
             }
         }
@@ -154,10 +146,10 @@ impl Sight {
     ) -> Result<(), NoMemory>
         ensures { OnOk result (breaches.new ≡ breaches.old ++ saga_field_faults at name_at name.now self.now.saga) }
     {
-        match &self.saga {
+        match self.saga() {
             None => blame(breaches, at, CheckKind::NoSaga),
             Some(saga) => {
-                let kind = kind_in(name, saga.fields.as_slice());
+                let kind = saga.kind_in(name);
                 want_true(breaches, kind.is_some(), name_at, CheckKind::UnknownField)
             }
         }
@@ -223,7 +215,7 @@ impl Sight {
         ensures said { IfOk result (λ j. j ≡ record { at = at; kind = spec.known (local_in name.now self.now.names) }) }
         ensures broken { OnOk result (breaches.new ≡ breaches.old ++ unless_some (local_in name.now self.now.names) at CheckKind.UnknownName) }
     {
-        let found = local_in(name, self.names.as_slice());
+        let found = self.local(name);
         want_true(breaches, found.is_some(), at, CheckKind::UnknownName)?;
         Ok(Judgement {
             at,

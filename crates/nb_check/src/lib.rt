@@ -14,8 +14,10 @@ mod key_set;
 mod known;
 mod met;
 mod rules;
+mod scope;
 mod sends;
 mod sight;
+mod tables;
 mod types;
 
 pub use bodies::BodyFault;

@@ -10,16 +10,16 @@ ghost use Rattle.nb_check.specs.Rules as spec;
 use crate::breach::{
     Breach, Breaches, CheckKind, Placed, blame, first_of, want_distinct, want_true,
 };
-use crate::follow::fields_of;
-use crate::sight::{SagaSight, Sight, is_kind, kind_in, want_kind};
-use crate::types::{Declared, MessageType, field_of, messages, revision_of, timeouts, type_text};
+use crate::scope::{SagaScope, Scope};
+use crate::sight::{is_kind, want_kind};
+use crate::tables::{FieldTable, MessageTable};
+use crate::types::{Declared, field_of, revision_of, timeouts, type_text};
 use nb_base::{Copied, Items, NoMemory, Text};
 use nb_script::expr::TypeName;
 use nb_script::item::{
     Answer, Field, FieldKind, Item, Literal, MessageField, Part, Revision, Saga, SagaField, Since,
 };
 use nb_script::stmt::Block;
-use sqlite_items::Items as Rows;
 use std::alloc::Global;
 
 fn placed_type(alloc: Global, name: &TypeName) -> Result<Placed, NoMemory>
@@ -259,40 +259,18 @@ fn saga_kinds(alloc: Global, saga: &Saga) -> Result<Items<Declared>, NoMemory>
 }
 
 /// What a part of a saga sees of it.
-fn saga_sight(alloc: Global, saga: &Saga) -> Result<SagaSight, NoMemory>
+fn saga_scope(alloc: Global, saga: &Saga) -> Result<SagaScope, NoMemory>
     ensures { IfOk result (λ s. s ≡ spec.saga_sight (tree.saga saga.now)) }
 {
     let correlation = saga.correlation.name.copy()?;
-    let fields = saga_kinds(alloc, saga)?;
+    let fields = FieldTable::new(alloc, saga_kinds(alloc, saga)?)?;
     let timeouts = timeouts(alloc, saga.parts.as_slice())?;
-    Ok(SagaSight {
-        correlation,
-        fields,
-        timeouts,
-    })
-}
-
-fn sight(
-    alloc: Global,
-    fields: Option<&Items<Declared>>,
-    saga: Option<SagaSight>,
-) -> Result<Sight, NoMemory>
-    ensures { IfOk result (λ g. g ≡ spec.sight (option_copied fields.entry) saga) }
-{
-    let message = match fields {
-        None => None,
-        Some(fields) => Some(fields.copy()?),
-    };
-    Ok(Sight {
-        message,
-        saga,
-        names: Rows::new(alloc),
-    })
+    Ok(SagaScope::new(correlation, fields, timeouts))
 }
 
 fn want_message(
     breaches: &mut Breaches,
-    fields: Option<&Items<Declared>>,
+    fields: Option<&FieldTable>,
     at: u32,
 ) -> Result<(), NoMemory>
     ensures { OnOk result (breaches.new ≡ breaches.old ++ unless_known (option_copied fields.entry) at) }
@@ -307,18 +285,18 @@ fn want_message(
 fn want_block(
     alloc: Global,
     breaches: &mut Breaches,
-    messages: &[MessageType],
+    messages: &MessageTable,
     name: &TypeName,
-    saga: Option<SagaSight>,
+    saga: Option<&SagaScope>,
     b: &Block,
 ) -> Result<(), NoMemory>
-    ensures { OnOk result (breaches.new ≡ breaches.old ++ spec.block_faults messages.now name.now saga (block b.now)) }
+    ensures { OnOk result (breaches.new ≡ breaches.old ++ spec.block_faults messages.now name.now (option_copied saga.entry) (block b.now)) }
 {
     let text = type_text(alloc, name)?;
-    let fields = fields_of(&text, messages);
+    let fields = messages.fields_of(&text);
     want_message(breaches, fields, name.at)?;
-    let mut sight = sight(alloc, fields, saga)?;
-    sight.follow_block(alloc, messages, b, breaches)?;
+    let mut scope = Scope::new(alloc, fields, saga);
+    scope.follow_block(alloc, messages, b, breaches)?;
     Ok(())
 }
 
@@ -339,7 +317,7 @@ fn want_found(
 /// The property by which a saga is found has the kind of the correlation property.
 fn want_by(
     breaches: &mut Breaches,
-    fields: Option<&Items<Declared>>,
+    fields: Option<&FieldTable>,
     field: &Text,
     at: u32,
     correlation: FieldKind,
@@ -350,7 +328,7 @@ fn want_by(
         None => Ok(()),
         Some(declared) => want_found(
             breaches,
-            kind_in(field, declared.as_slice()),
+            declared.kind_in(field),
             at,
             correlation,
         ),
@@ -360,12 +338,12 @@ fn want_by(
 fn want_part(
     alloc: Global,
     breaches: &mut Breaches,
-    messages: &[MessageType],
-    saga: SagaSight,
+    messages: &MessageTable,
+    saga: &SagaScope,
     correlation: FieldKind,
     part: &Part,
 ) -> Result<(), NoMemory>
-    ensures { OnOk result (breaches.new ≡ breaches.old ++ spec.part_faults messages.now saga correlation (tree.part part.now)) }
+    ensures { OnOk result (breaches.new ≡ breaches.old ++ spec.part_faults messages.now saga.now correlation (tree.part part.now)) }
 {
     match part {
         Part::ByField {
@@ -378,7 +356,7 @@ fn want_part(
             let text = type_text(alloc, name)?;
             want_by(
                 breaches,
-                fields_of(&text, messages),
+                messages.fields_of(&text),
                 field,
                 *field_at,
                 correlation,
@@ -395,14 +373,14 @@ fn want_part(
 fn want_parts(
     alloc: Global,
     breaches: &mut Breaches,
-    messages: &[MessageType],
+    messages: &MessageTable,
     saga: &Saga,
 ) -> Result<(), NoMemory>
     ensures { OnOk result (breaches.new ≡ breaches.old ++ spec.parts_faults messages.now (spec.saga_sight (tree.saga saga.now)) saga.now.correlation.kind (map tree.part saga.now.parts)) }
 {
+    let scope = saga_scope(alloc, saga)?;
     for p in saga.parts.as_slice() {
-        let sight = saga_sight(alloc, saga)?;
-        want_part(alloc, breaches, messages, sight, saga.correlation.kind, p)?;
+        want_part(alloc, breaches, messages, &scope, saga.correlation.kind, p)?;
     }
     Ok(())
 }
@@ -412,7 +390,7 @@ fn want_declared(alloc: Global, breaches: &mut Breaches, saga: &Saga) -> Result<
     ensures { OnOk result (breaches.new ≡ breaches.old ++ spec.declared_faults (tree.saga saga.now)) }
 {
     let placed = placed_state(alloc, saga)?;
-    want_distinct(breaches, CheckKind::FieldTwice, placed.as_slice())?;
+    want_distinct(alloc, breaches, CheckKind::FieldTwice, placed.as_slice())?;
     want_correlation(breaches, &saga.correlation)?;
     want_revision(breaches, &saga.revision)?;
     want_state(
@@ -426,16 +404,16 @@ fn want_declared(alloc: Global, breaches: &mut Breaches, saga: &Saga) -> Result<
 fn want_saga(
     alloc: Global,
     breaches: &mut Breaches,
-    messages: &[MessageType],
+    messages: &MessageTable,
     saga: &Saga,
 ) -> Result<(), NoMemory>
     ensures { OnOk result (breaches.new ≡ breaches.old ++ spec.saga_faults messages.now (tree.saga saga.now)) }
 {
     want_declared(alloc, breaches, saga)?;
     let parts = placed_parts(alloc, saga.parts.as_slice())?;
-    want_distinct(breaches, CheckKind::PartTwice, parts.as_slice())?;
+    want_distinct(alloc, breaches, CheckKind::PartTwice, parts.as_slice())?;
     let timeouts = placed_timeouts(alloc, saga.parts.as_slice())?;
-    want_distinct(breaches, CheckKind::PartTwice, timeouts.as_slice())?;
+    want_distinct(alloc, breaches, CheckKind::PartTwice, timeouts.as_slice())?;
     want_parts(alloc, breaches, messages, saga)?;
     Ok(())
 }
@@ -443,7 +421,7 @@ fn want_saga(
 fn want_item(
     alloc: Global,
     breaches: &mut Breaches,
-    messages: &[MessageType],
+    messages: &MessageTable,
     i: &Item,
 ) -> Result<(), NoMemory>
     ensures { OnOk result (breaches.new ≡ breaches.old ++ spec.item_faults messages.now (tree.item i.now)) }
@@ -451,7 +429,7 @@ fn want_item(
     match i {
         Item::Message { fields, .. } => {
             let placed = placed_fields(alloc, fields.as_slice())?;
-            want_distinct(breaches, CheckKind::FieldTwice, placed.as_slice())
+            want_distinct(alloc, breaches, CheckKind::FieldTwice, placed.as_slice())
         }
         Item::Handler { name, block, .. } => {
             want_block(alloc, breaches, messages, name, None, block)
@@ -463,7 +441,7 @@ fn want_item(
 fn want_items(
     alloc: Global,
     breaches: &mut Breaches,
-    messages: &[MessageType],
+    messages: &MessageTable,
     items: &[Item],
 ) -> Result<(), NoMemory>
     ensures { OnOk result (breaches.new ≡ breaches.old ++ spec.items_faults messages.now (script items.now)) }
@@ -477,7 +455,7 @@ fn want_items(
 /// Each rule that a script breaks, given the messages that it declares.
 pub(crate) fn script_faults(
     alloc: Global,
-    messages: &[MessageType],
+    messages: &MessageTable,
     items: &[Item],
 ) -> Result<Breaches, NoMemory>
     requires { messages.now ≡ declared.messages (script items.now) }
@@ -485,9 +463,9 @@ pub(crate) fn script_faults(
 {
     let mut breaches = Items::new(alloc);
     let placed = placed_messages(alloc, items)?;
-    want_distinct(&mut breaches, CheckKind::MessageTwice, placed.as_slice())?;
+    want_distinct(alloc, &mut breaches, CheckKind::MessageTwice, placed.as_slice())?;
     let placed = placed_sagas(alloc, items)?;
-    want_distinct(&mut breaches, CheckKind::SagaTwice, placed.as_slice())?;
+    want_distinct(alloc, &mut breaches, CheckKind::SagaTwice, placed.as_slice())?;
     want_items(alloc, &mut breaches, messages, items)?;
     Ok(breaches)
 }

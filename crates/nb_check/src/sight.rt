@@ -1,7 +1,7 @@
 //! What is in sight of an expression, and which kinds are wanted where.
 ghost use Rattle.std.specs.Prelude.{◌≡◌, ◌++◌, Some, OnOk, option_map};
 ghost use Rattle.nb_check.specs.Kinds as spec;
-ghost use Rattle.nb_check.specs.Kinds.{kind_in, local_in, message_kind, saga_kind, is_truth, is_text, taken_by, made_by, prefix_kind, constant_kind, call_kind};
+ghost use Rattle.nb_check.specs.Kinds.{local_in, is_truth, is_text, taken_by, made_by, prefix_kind, constant_kind, call_kind};
 
 use crate::breach::{Breaches, CheckKind, want_true};
 use crate::types::Declared;
@@ -17,7 +17,7 @@ pub struct Local {
     pub kind: Option<FieldKind>,
 }
 
-/// What a part of a saga sees of it.
+/// What a part of a saga sees of it, as contracts see it.
 #[derive(Debug, Drop)]
 pub struct SagaSight {
     /// The name of the correlation property.
@@ -28,7 +28,7 @@ pub struct SagaSight {
     pub timeouts: Names,
 }
 
-/// What is in sight of an expression.
+/// What is in sight of an expression, as contracts see it.
 #[derive(Debug, Drop)]
 pub struct Sight {
     /// The message's fields, where it is declared.
@@ -67,18 +67,6 @@ pub(crate) fn is_kind(j: FieldKind, k: FieldKind) -> bool
     }
 }
 
-/// The kind of the first field of this name.
-pub(crate) fn kind_in(name: &Text, declared: &[Declared]) -> Option<FieldKind>
-    ensures { result ≡ kind_in name.now declared.now }
-{
-    for d in declared {
-        if d.name == *name {
-            return Some(d.kind);
-        }
-    }
-    None
-}
-
 /// The kind of the first name that is the same.
 pub(crate) fn local_in(name: &Text, names: &[Local]) -> Option<Option<FieldKind>>
     ensures { result ≡ local_in name.now names.now }
@@ -89,24 +77,6 @@ pub(crate) fn local_in(name: &Text, names: &[Local]) -> Option<Option<FieldKind>
         }
     }
     None
-}
-
-pub(crate) fn message_kind(name: &Text, message: &Option<Items<Declared>>) -> Option<FieldKind>
-    ensures { result ≡ message_kind name.now message.now }
-{
-    match message {
-        None => None,
-        Some(declared) => kind_in(name, declared.as_slice()),
-    }
-}
-
-pub(crate) fn saga_kind(name: &Text, saga: &Option<SagaSight>) -> Option<FieldKind>
-    ensures { result ≡ saga_kind name.now saga.now }
-{
-    match saga {
-        None => None,
-        Some(saga) => kind_in(name, saga.fields.as_slice()),
-    }
 }
 
 /// A kind that isn't known is taken everywhere.

@@ -1,7 +1,7 @@
 use Rattle.std.proofs.Common.{◌≡◌, ◌++◌, drop}
 use Rattle.nb_script.specs.Tree.{listed}
 use Rattle.nb_check.specs.Statements.{phrases_faults, all_after}
-use Rattle.nb_check.proofs.sight.Sight.+statements.Given as goal
+use Rattle.nb_check.proofs.scope.Scope.+statements.Given as goal
 
 abbrev pub invariant-follow_block-loop-d : goal.invariant-follow_block-loop-d
 invariant-follow_block-loop-d l = record {
