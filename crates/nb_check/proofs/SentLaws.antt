@@ -1,8 +1,7 @@
 -- What a script that breaks no rule sends is declared.
-use Rattle.std.proofs.Common.{◌≡◌, ℕ, suc, List, [], ◌∷◌, ◌++◌, true, false, cond, Option, Some, None, refl, sym, ap, ◌∙◌, subst}
+use Rattle.std.proofs.Common.{◌≡◌, ℕ, suc, List, [], ◌∷◌, ◌++◌, true, false, cond, Option, Some, None, refl, sym, ap, subst}
 use Rattle.std.specs.List.{AllByRecursion}
 use Rattle.std.specs.Str.{bytes_eq}
-use Rattle.std.specs.Prelude.{slice_get}
 use Rattle.std.proofs.lemmas.Slice.Eq.{bytes_eq-Decides}
 use Rattle.nb_base.specs.Meanings.{IsAmong}
 use Rattle.nb_script.specs.declared.expr.TypeName.{TypeName}
@@ -14,8 +13,8 @@ use Rattle.nb_script.specs.declared.item.FieldKind.TheVariants.{Bool as Truth}
 use Rattle.nb_check.specs.Blocks.{blocks, item_blocks, part_blocks}
 use Rattle.nb_check.specs.Breaches.{twice}
 use Rattle.nb_check.specs.Declarations.{type_text, names_of, messages}
-use Rattle.nb_check.specs.Rules.{script_faults, items_faults, item_faults, saga_faults, declared_faults, parts_faults, part_faults, block_faults, saga_sight, sight, by_faults, placed_messages, placed_sagas, placed_parts, placed_timeouts}
-use Rattle.nb_check.specs.Sends.{routed, phrase_sends, phrases_sends, braces_sends, otherwise_sends, blocks_sends, sends}
+use Rattle.nb_check.specs.Rules.{script_faults, items_faults, item_faults, declared_faults, parts_faults, part_faults, block_faults, saga_sight, sight, by_faults, placed_messages, placed_sagas, placed_parts, placed_timeouts}
+use Rattle.nb_check.specs.Sends.{phrase_sends, phrases_sends, braces_sends, otherwise_sends, blocks_sends, sends}
 use Rattle.nb_check.specs.Statements.{fields_of, unless_known, missing_faults, make_faults, delay_faults, value_faults, phrase_faults, phrases_faults, braces_faults, otherwise_faults, after}
 use Rattle.nb_check.specs.declared.breach.CheckKind.TheVariants.{MessageTwice, SagaTwice, PartTwice}
 use Rattle.nb_check.specs.declared.sight.SagaSight.{SagaSight}

@@ -1,4 +1,4 @@
-use Rattle.std.proofs.Common.{◌≡◌, ◌+◌, ◌≤◌, List, length, drop, sym, ap, ◌∙◌}
+use Rattle.std.proofs.Common.{◌+◌, ◌≤◌, length, drop, sym, ap, ◌∙◌}
 use Rattle.std.specs.FinMap as map
 use Rattle.nb_check.specs.Statements.{fields_of}
 use Rattle.nb_check.specs.Tables.{with_first}

@@ -1,4 +1,4 @@
-use Rattle.std.proofs.Common.{◌≡◌, ◌+◌, ◌≤◌, List, length, drop, map as map_list, ◌||◌, is_some, sym, ap, ◌∙◌}
+use Rattle.std.proofs.Common.{◌+◌, ◌≤◌, length, drop, map as map_list, ◌||◌, is_some, sym, ap, ◌∙◌}
 use Rattle.std.specs.FinMap as map
 use Rattle.nb_script.specs.Tree.{arg}
 use Rattle.nb_check.specs.Statements.{is_given}

@@ -1,4 +1,4 @@
-use Rattle.std.proofs.Common.{◌≡◌, ◌+◌, ◌≤◌, List, length, drop, sym, ap, ◌∙◌}
+use Rattle.std.proofs.Common.{◌+◌, ◌≤◌, length, drop, sym, ap, ◌∙◌}
 use Rattle.std.specs.FinMap as map
 use Rattle.nb_check.specs.Kinds.{kind_in}
 use Rattle.nb_check.proofs.MetLaws.{next_of}
