@@ -1,6 +1,7 @@
 pub mod FirstLaws
 pub mod KeyLaws
 pub mod MetLaws
+pub mod PlaceLaws
 pub mod SendLaws
 pub mod SentLaws
 pub mod SightLaws

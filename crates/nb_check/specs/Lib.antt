@@ -8,6 +8,7 @@ pub mod Fits
 pub mod Keys
 pub mod Kinds
 pub mod Meets
+pub mod Places
 pub mod Rules
 pub mod Sends
 pub mod Statements

@@ -123,12 +123,7 @@ fn want_set(
         Some(saga) => {
             let holds = !saga.correlates_by(field);
             want_true(breaches, holds, field_at, CheckKind::SetsCorrelation)?;
-            want_field(
-                breaches,
-                saga.kind_in(field),
-                field_at,
-                e,
-            )?;
+            want_field(breaches, saga.kind_in(field), field_at, e)?;
             Ok(())
         }
     }

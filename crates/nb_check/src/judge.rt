@@ -9,8 +9,8 @@ use crate::breach::{Breaches, CheckKind, blame, want_true};
 use crate::known::is_join;
 use crate::scope::Scope;
 use crate::sight::{
-    Judgement, call_kind, constant_kind, is_kind, made_by, prefix_kind, refuse_text,
-    taken_by, want, want_operands,
+    Judgement, call_kind, constant_kind, is_kind, made_by, prefix_kind, refuse_text, taken_by,
+    want, want_operands,
 };
 use nb_base::{NoMemory, Text};
 use nb_script::expr::{Constant, Expr, Function, Holder};

@@ -12,6 +12,7 @@ mod incoming;
 mod judge;
 mod key_set;
 mod known;
+mod locals;
 mod met;
 mod rules;
 mod scope;

@@ -326,12 +326,7 @@ fn want_by(
 {
     match fields {
         None => Ok(()),
-        Some(declared) => want_found(
-            breaches,
-            declared.kind_in(field),
-            at,
-            correlation,
-        ),
+        Some(declared) => want_found(breaches, declared.kind_in(field), at, correlation),
     }
 }
 
@@ -463,9 +458,19 @@ pub(crate) fn script_faults(
 {
     let mut breaches = Items::new(alloc);
     let placed = placed_messages(alloc, items)?;
-    want_distinct(alloc, &mut breaches, CheckKind::MessageTwice, placed.as_slice())?;
+    want_distinct(
+        alloc,
+        &mut breaches,
+        CheckKind::MessageTwice,
+        placed.as_slice(),
+    )?;
     let placed = placed_sagas(alloc, items)?;
-    want_distinct(alloc, &mut breaches, CheckKind::SagaTwice, placed.as_slice())?;
+    want_distinct(
+        alloc,
+        &mut breaches,
+        CheckKind::SagaTwice,
+        placed.as_slice(),
+    )?;
     want_items(alloc, &mut breaches, messages, items)?;
     Ok(breaches)
 }

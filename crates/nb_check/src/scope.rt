@@ -3,12 +3,12 @@ ghost use Rattle.std.specs.Prelude.{◌≡◌, ◌++◌, ◌∷◌, [], length, 
 ghost use Rattle.nb_check.specs.Kinds as kinds;
 ghost use Rattle.nb_check.specs.Statements as statements;
 
-use crate::sight::{Local, local_in};
+use crate::locals::LocalTable;
+use crate::sight::Local;
 use crate::tables::FieldTable;
 use nb_base::{Names, NoMemory, Text};
 use nb_script::expr::Holder;
 use nb_script::item::FieldKind;
-use sqlite_items::Items as Rows;
 use std::alloc::Global;
 use std::marker::Model;
 
@@ -72,20 +72,12 @@ fn has_name(name: &Text, names: &[Text]) -> bool
     false
 }
 
-fn cut(names: &mut Rows<Local>, count: usize)
-    ensures { names.new ≡ take count names.old }
-{
-    while names.len() > count {
-        let _last = names.pop();
-    }
-}
-
 /// What is in sight of an expression.
 #[derive(Drop)]
 pub(crate) struct Scope<'a> {
     message: Option<&'a FieldTable>,
     saga: Option<&'a SagaScope>,
-    names: Rows<Local>,
+    names: LocalTable,
 }
 
 impl<'a> Model for Scope<'a> {
@@ -108,7 +100,7 @@ impl<'a> Scope<'a> {
         Scope {
             message,
             saga,
-            names: Rows::new(alloc),
+            names: LocalTable::new(alloc),
         }
     }
 
@@ -157,7 +149,7 @@ impl<'a> Scope<'a> {
     pub(crate) fn local(&self, name: &Text) -> Option<Option<FieldKind>>
         ensures { result ≡ kinds.local_in name.now self.now.names }
     {
-        local_in(name, self.names.as_slice())
+        self.names.kind_of(name)
     }
 
     /// How many names `let`s made.
@@ -171,14 +163,13 @@ impl<'a> Scope<'a> {
     pub(crate) fn bring(&mut self, local: Local) -> Result<(), NoMemory>
         ensures { OnOk result (self.new ≡ record self.old { names = self.old.names ++ local ∷ [] }) }
     {
-        self.names.push(local)?;
-        Ok(())
+        self.names.push(local)
     }
 
     /// Takes all names but the first ones out of sight.
     pub(crate) fn cut(&mut self, count: usize)
         ensures { self.new ≡ record self.old { names = take count self.old.names } }
     {
-        cut(&mut self.names, count);
+        self.names.cut(count);
     }
 }

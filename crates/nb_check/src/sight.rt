@@ -1,7 +1,7 @@
 //! What is in sight of an expression, and which kinds are wanted where.
 ghost use Rattle.std.specs.Prelude.{◌≡◌, ◌++◌, Some, OnOk, option_map};
 ghost use Rattle.nb_check.specs.Kinds as spec;
-ghost use Rattle.nb_check.specs.Kinds.{local_in, is_truth, is_text, taken_by, made_by, prefix_kind, constant_kind, call_kind};
+ghost use Rattle.nb_check.specs.Kinds.{is_truth, is_text, taken_by, made_by, prefix_kind, constant_kind, call_kind};
 
 use crate::breach::{Breaches, CheckKind, want_true};
 use crate::types::Declared;
@@ -65,18 +65,6 @@ pub(crate) fn is_kind(j: FieldKind, k: FieldKind) -> bool
         (FieldKind::Bool, FieldKind::Bool) => true,
         _ => false,
     }
-}
-
-/// The kind of the first name that is the same.
-pub(crate) fn local_in(name: &Text, names: &[Local]) -> Option<Option<FieldKind>>
-    ensures { result ≡ local_in name.now names.now }
-{
-    for l in names {
-        if l.name == *name {
-            return Some(l.kind);
-        }
-    }
-    None
 }
 
 /// A kind that isn't known is taken everywhere.

@@ -1,5 +1,5 @@
 use Rattle.std.proofs.Common.{◌≡◌, take, length}
-use Rattle.nb_check.proofs.scope.cut.Given as goal
+use Rattle.nb_check.proofs.locals.cut.Given as goal
 
 abbrev pub invariant-loop-names : goal.invariant-loop-names
 invariant-loop-names l = take l.count l.names ≡ take l.count l.initial.names
