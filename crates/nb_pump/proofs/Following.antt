@@ -1,11 +1,11 @@
 -- What follows a Take: own events of the lease one after another, and how a refusal ends them.
-use Rattle.std.proofs.Common.{◌≡◌, ℕ, ◌+◌, ◌<◌, List, [], ◌∷◌, ◌++◌, length, Bool, false, refl, sym, ap, ◌∙◌, subst, append_assoc, append-nil, arith}
-use Rattle.std.specs.Prelude.{All, Result, Ok, Err, Some, slice_get}
+use Rattle.std.proofs.Common.{◌≡◌, ℕ, ◌+◌, ◌<◌, List, [], ◌∷◌, ◌++◌, length, false, refl, sym, ap, ◌∙◌, subst, append_assoc, append-nil, arith}
+use Rattle.std.specs.Prelude.{All, Result, Ok, Err}
 use Rattle.std.proofs.lemmas.List.Elements.{All-append, All-cons, All-nil}
 use Rattle.nb_core.proofs.Held.{phase_same}
 use Rattle.nb_core.specs.Calls.{View, Called, Owns, Ready, Refuses, IsSending, IsSpent, state_of}
-use Rattle.nb_core.specs.Legal.{halted, is_halt}
-use Rattle.nb_core.specs.Past.{Fixed, IsLegal, constants, state_after}
+use Rattle.nb_core.specs.Legal.{halted}
+use Rattle.nb_core.specs.Past.{Fixed, IsLegal, constants}
 use Rattle.nb_core.specs.State.{Constants, phase}
 use Rattle.nb_core.specs.declared.state.State.{State}
 use Rattle.nb_core.specs.Step.{Step, send, mark, aside, remove}
@@ -20,9 +20,9 @@ use Rattle.nb_core.specs.declared.event.Event.TheVariants.{Send, Mark, Aside, Re
 use Rattle.nb_core.specs.declared.phase.Phase.{Phase}
 use Rattle.nb_core.specs.declared.phase.Phase.TheVariants.{Idle, Held, Looked, Sending, Leaving, Done}
 use Rattle.nb_base.specs.declared.entry.Op.{Op}
-use Rattle.nb_pump.specs.Leases.{IsOfLease, stop_of, IsCause, FollowEnd, Follows, CanFollow}
+use Rattle.nb_pump.specs.Leases.{IsOfLease, stop_of, IsCause, FollowEnd, Follows}
 use Rattle.nb_pump.specs.Made.{Moved, Made}
-use Rattle.nb_pump.proofs.Views.{moved_as, owns_same, made_after, made_append, made_one, moved_none, stepped, stays, before, left, off_after}
+use Rattle.nb_pump.proofs.Views.{moved_as, owns_same, made_append, made_one, moved_none, stepped, stays, before, left, off_after}
 
 one : (w : ℕ) (e : Event) → IsOfLease w e → All (IsOfLease w) (e ∷ [])
 one w e of_lease = All-cons (IsOfLease w) e [] of_lease (All-nil (IsOfLease w))

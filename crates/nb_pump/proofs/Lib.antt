@@ -1,4 +1,6 @@
 pub mod Following
+pub mod Releasing
 pub mod Settling
 pub mod Taking
 pub mod Views
+pub mod Winding

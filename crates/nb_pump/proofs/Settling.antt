@@ -1,7 +1,6 @@
 -- What a settle leaves to do.
-use Rattle.std.proofs.Common.{◌≡◌, ℕ, ◌+◌, List, [], ◌∷◌, ◌++◌, length, Bool, true, false, refl, sym, ap, ◌∙◌, subst, arith}
-use Rattle.std.specs.Prelude.{Result, Ok, Err, Some, None, Option}
-use Rattle.nb_base.specs.Messages.{Message}
+use Rattle.std.proofs.Common.{◌≡◌, ℕ, ◌+◌, List, [], ◌∷◌, length, Bool, true, false, refl, ap, ◌∙◌, arith}
+use Rattle.std.specs.Prelude.{Result, Ok, Err, Some, None}
 use Rattle.nb_base.specs.declared.entry.Op.{Op}
 use Rattle.nb_base.specs.declared.plan.Outcome.{Outcome}
 use Rattle.nb_base.specs.declared.saga_row.Read.{Read}
@@ -11,10 +10,10 @@ use Rattle.nb_recover.specs.declared.fail.Fail.{Fail}
 use Rattle.nb_recover.specs.declared.moves.Move.{Move}
 use Rattle.nb_recover.specs.declared.moves.Move.TheVariants as move
 use Rattle.nb_core.proofs.Held.{phase_same}
-use Rattle.nb_core.specs.Calls.{View, Called, Owns, Ready, FailsBy, HasLooked, Settles, MovesBy, IsSending, state_of}
-use Rattle.nb_core.specs.Past.{Fixed, constants}
+use Rattle.nb_core.specs.Calls.{View, Called, Owns, FailsBy, HasLooked, Settles, MovesBy, IsSending, state_of}
+use Rattle.nb_core.specs.Past.{constants}
 use Rattle.nb_core.specs.Settling.{by_fault, by_conflict}
-use Rattle.nb_core.specs.State.{Constants, phase, entry, recorded, at_phase, phase_by, phase_after, failed, committed, commit_ops, move_after, fails}
+use Rattle.nb_core.specs.State.{Constants, phase, entry, recorded, phase_by, phase_after, failed, commit_ops, move_after, fails}
 use Rattle.nb_core.specs.declared.state.State.{State}
 use Rattle.nb_core.specs.Step.{Step, settle_twin, settle_fault, settle_conflict, settle_commit}
 use Rattle.nb_core.specs.declared.answers.DeskFault.{DeskFault}
@@ -22,14 +21,12 @@ use Rattle.nb_core.specs.declared.answers.Settled.{Settled}
 use Rattle.nb_core.specs.declared.answers.Settled.TheVariants as settled
 use Rattle.nb_core.specs.declared.call.Answer.TheVariants as answer
 use Rattle.nb_core.specs.declared.call.Call.TheVariants as call
-use Rattle.nb_core.specs.declared.event.Event.{Event}
 use Rattle.nb_core.specs.declared.event.Event.TheVariants.{Settle}
-use Rattle.nb_core.specs.declared.phase.Phase.{Phase}
-use Rattle.nb_core.specs.declared.phase.Phase.TheVariants.{Idle, Looked, Sending, Leaving, Done}
+use Rattle.nb_core.specs.declared.phase.Phase.TheVariants.{Looked, Sending, Done}
 use Rattle.nb_pump.specs.Leases.{CanFollow, Follows, next_after}
-use Rattle.nb_pump.specs.Made.{Moved, Made}
+use Rattle.nb_pump.specs.Made.{Moved}
 use Rattle.nb_pump.proofs.Following.{breaks, follows_event}
-use Rattle.nb_pump.proofs.Views.{moved_as, owns_same, stepped, reaches, before, off_after}
+use Rattle.nb_pump.proofs.Views.{moved_as, owns_same, reaches, before, off_after}
 
 -- a phase to which a record leads: its batch may be sent, or the entry removed
 pub sending_by : (s : State) (w n : ℕ) (id : List ℕ) (ops : List Op) → phase s w ≡ phase_by false n id ops → (left : ℕ) × IsSending s w left

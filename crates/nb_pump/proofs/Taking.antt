@@ -1,23 +1,22 @@
 -- A Take and a Look: what they leave to do, and the whole lease.
-use Rattle.std.proofs.Common.{◌≡◌, ◌⊎◌, inl, inr, ℕ, ◌<◌, ◌≤◌, List, [], ◌∷◌, ◌++◌, Bool, true, false, refl, sym, ap, ◌∙◌, subst}
-use Rattle.std.specs.Prelude.{All, Result, Ok, Err, Some, None, Option}
+use Rattle.std.proofs.Common.{◌≡◌, inl, inr, ℕ, ◌<◌, ◌≤◌, List, [], ◌∷◌, ◌++◌, Bool, true, false, refl, sym, ap, ◌∙◌, subst}
+use Rattle.std.specs.Prelude.{Result, Ok, Err, Some, None, Option}
 use Rattle.std.proofs.lemmas.List.Elements.{All-nil}
-use Rattle.nb_base.specs.Meanings.{Meaning, IsMeaning, IsShown}
+use Rattle.nb_base.specs.Meanings.{Meaning, IsMeaning}
 use Rattle.nb_base.specs.Messages.{Message}
 use Rattle.nb_base.specs.Shown.{seen}
 use Rattle.nb_base.specs.declared.saga_row.Read.{Read}
 use Rattle.nb_base.specs.declared.tables.Queued.{Queued}
 use Rattle.nb_headers.specs.Reads.{id_of}
 use Rattle.nb_core.proofs.Held.{phase_same}
-use Rattle.nb_core.proofs.Pasts.{Leaves}
 use Rattle.nb_core.proofs.Stating.{state_facts}
-use Rattle.nb_core.specs.Calls.{View, Called, Owns, Ready, HoldsOne, Finds, IsSending, IsTaken, state_of}
+use Rattle.nb_core.specs.Calls.{View, Called, Owns, Ready, HoldsOne, Finds, IsTaken, state_of}
 use Rattle.nb_core.specs.Facts.{StateFacts}
 use Rattle.nb_core.specs.Legal.{halted}
-use Rattle.nb_core.specs.Past.{Fixed, IsLegal, constants, state_after, takes}
-use Rattle.nb_core.specs.State.{Constants, phase, entry, recorded, base, number_of, at_phase, phase_by, IsFree}
+use Rattle.nb_core.specs.Past.{Fixed, constants, takes}
+use Rattle.nb_core.specs.State.{Constants, phase, entry, base, number_of, at_phase, phase_by, IsFree}
 use Rattle.nb_core.specs.declared.state.State.{State}
-use Rattle.nb_core.specs.Step.{Step, take, look_known, look_new}
+use Rattle.nb_core.specs.Step.{take, look_known, look_new}
 use Rattle.nb_core.specs.declared.answers.DeskFault.{DeskFault}
 use Rattle.nb_core.specs.declared.answers.DeskFault.TheVariants.{NoMemory}
 use Rattle.nb_core.specs.declared.answers.Look.{Look as LookAnswer}
@@ -29,15 +28,13 @@ use Rattle.nb_core.specs.declared.event.Event.{Event}
 use Rattle.nb_core.specs.declared.event.Event.TheVariants.{Take, Look}
 use Rattle.nb_core.specs.declared.phase.Phase.{Phase}
 use Rattle.nb_core.specs.declared.phase.Phase.TheVariants.{Idle, Held, Looked, Sending, Leaving, Done}
-use Rattle.nb_pump.specs.Leases.{IsOfLease, stop_of, Breaks, CanFollow, Follows, HoldsMessage, MayJudge, TurnIs}
-use Rattle.nb_pump.specs.Made.{Moved, Made}
-use Rattle.nb_pump.specs.declared.outcome.Next.{Next}
+use Rattle.nb_pump.specs.Leases.{IsOfLease, CanFollow, Follows, HoldsMessage, MayJudge, TurnIs}
+use Rattle.nb_pump.specs.Made.{Moved}
 use Rattle.nb_pump.specs.declared.outcome.Next.TheVariants as next
-use Rattle.nb_pump.specs.declared.outcome.Turn.{Turn}
 use Rattle.nb_pump.specs.declared.outcome.Turn.TheVariants.{Ended, Nothing, Limit}
 use Rattle.nb_pump.proofs.Following.{breaks, refused, follows_event, seen_after}
 use Rattle.nb_pump.proofs.Settling.{sending_by, done_by}
-use Rattle.nb_pump.proofs.Views.{moved_as, owns_same, before, left, reaches, stays, off_after, made_one, made_append, made_kept, moved_none, same_state, ran_before, sound_before}
+use Rattle.nb_pump.proofs.Views.{moved_as, owns_same, before, left, reaches, stays, off_after, moved_none, ran_before, sound_before}
 
 some_is : {A : Type 0} {x y : A} → Some x ≡ Some y → x ≡ y
 some_is {A = A} {x = x} e = ap (λ (o : Option A). value o) e
@@ -106,13 +103,16 @@ module _ {v u : View} {w : ℕ} (m : Moved v (Look w ∷ []) u) (owns : Owns v w
           fit = facts.fit;
           shown = h.holds.1 ∙ ap (λ (x : Message). seen (base s) (c.meaning.keys x)) same;
         };
-        ready = (owned, record {
-          number = h.number;
-          it = h.it;
-          looked = ap (λ (y : State). phase y w) t ∙ phase_same s.phases w (Looked h.number (seen (base s) (c.meaning.keys h.it.envelope))) ∙ ap (λ (rs : List Read). Looked h.number rs) (sym h.holds.1);
-          there = ap (λ (y : State). entry y h.number) t ∙ h.there;
-          verdict_is = (λ i. (sym m.fixed i).meaning.on_reads reads (sym same i) (sym (ap (λ (y : State). y.moment) t ∙ now) i));
-        });
+        ready = (
+          owned,
+          record {
+            number = h.number;
+            it = h.it;
+            looked = ap (λ (y : State). phase y w) t ∙ phase_same s.phases w (Looked h.number (seen (base s) (c.meaning.keys h.it.envelope))) ∙ ap (λ (rs : List Read). Looked h.number rs) (sym h.holds.1);
+            there = ap (λ (y : State). entry y h.number) t ∙ h.there;
+            verdict_is = (λ i. (sym m.fixed i).meaning.on_reads reads (sym same i) (sym (ap (λ (y : State). y.moment) t ∙ now) i));
+          },
+        );
         legal = m.legal;
         off = off_after m refl;
       }

@@ -1,13 +1,12 @@
 -- Calls one after another, and the steps that they make.
-use Rattle.std.proofs.Common.{◌≡◌, ℕ, ◌<◌, List, [], ◌∷◌, ◌++◌, length, Bool, false, refl, sym, ap, ◌∙◌, subst, append_assoc, append-nil}
-use Rattle.std.specs.Prelude.{All, Some}
+use Rattle.std.proofs.Common.{◌≡◌, ℕ, ◌<◌, List, [], ◌∷◌, ◌++◌, length, false, refl, sym, ap, ◌∙◌, subst, append_assoc, append-nil}
+use Rattle.std.specs.Prelude.{All}
 use Rattle.std.specs.FinMap as map
 use Rattle.std.proofs.lemmas.List.Elements.{All-append, All-nil}
 use Rattle.nb_core.proofs.Appending.{run_split}
-use Rattle.nb_core.proofs.Bridge.{run_is, step_after, unique}
+use Rattle.nb_core.proofs.Bridge.{run_is, unique}
 use Rattle.nb_core.proofs.Held.{BelowAt, HoldingAt, below_kept, holding_kept, nobody, phase_empty}
 use Rattle.nb_core.proofs.Pasts.{Leaves, leaves_all, halted_push}
-use Rattle.nb_core.specs.After.{run}
 use Rattle.nb_core.specs.Calls.{View, Called, Foreign, Owns, OwnsAll, places, state_of, times}
 use Rattle.nb_core.specs.History.{Run, ends, goes, opened}
 use Rattle.nb_core.specs.Legal.{IsSound, halted, is_halt}
@@ -15,7 +14,6 @@ use Rattle.nb_core.specs.Past.{Fixed, IsLegal, constants, state_after}
 use Rattle.nb_core.specs.State.{Constants}
 use Rattle.nb_core.specs.declared.state.State.{State}
 use Rattle.nb_core.specs.Step.{Step}
-use Rattle.nb_core.specs.declared.answers.DeskFault.{DeskFault}
 use Rattle.nb_core.specs.declared.call.Answer.{Answer}
 use Rattle.nb_core.specs.declared.call.Call.{Call}
 use Rattle.nb_core.specs.declared.event.Event.{Event}
@@ -107,6 +105,11 @@ made_legal v w (e ∷ es) m = made_legal m.0 w es m.2
 holding_run : {c : Constants} {s t : State} {es : List Event} → Run c s es t → BelowAt s → HoldingAt c s → BelowAt t × HoldingAt c t
 holding_run ends b h = (b, h)
 holding_run (goes step rest) b h = holding_run rest (below_kept step b) (holding_kept step b h)
+
+-- the state of a legal history has its entries below the next number, and holds them apart
+pub holding_of : (f : Fixed) (es : List Event) → IsLegal f es → BelowAt (state_after f es) × HoldingAt (constants f) (state_after f es)
+holding_of f es l =
+    holding_run l.legal.run (record { below = λ n e there. (l.legal.sound.post.entries n e there).below }) (nobody f.settings map.empty f.opening.post.entries phase_empty)
 
 -- the state in which a call acts: events of others came before
 abbrev pub before : {v w : View} {own : List Event} → Moved v own w → State

@@ -3,7 +3,9 @@
 
 mod lease;
 mod outcome;
+mod releases;
 mod rest;
 
 pub use lease::turn;
 pub use outcome::Turn;
+pub use releases::{due_by, release_due, wind};

@@ -1,9 +1,9 @@
-use Rattle.std.proofs.Common.{◌≡◌, ◌∙◌, ap, subst}
-use Rattle.std.specs.Prelude.{Ok, true, false}
+use Rattle.std.proofs.Common.{◌∙◌, ap, subst}
+use Rattle.std.specs.Prelude.{Ok}
 use Rattle.std.proofs.lemmas.Result.{err_from_is_err_and}
 use Rattle.nb_core.specs.Calls.{Called}
 use Rattle.nb_core.specs.declared.answers.Look.{Look as LookAnswer}
-use Rattle.nb_core.specs.declared.answers.Look.TheVariants.{Fresh, Known}
+use Rattle.nb_core.specs.declared.answers.Look.TheVariants.{Known}
 use Rattle.nb_core.specs.declared.call.Answer.TheVariants as answer
 use Rattle.nb_core.specs.declared.call.Call.TheVariants as call
 use Rattle.nb_pump.proofs.Taking.{look_refused, looked_then, may_finish, may_dispatch, may_judge}

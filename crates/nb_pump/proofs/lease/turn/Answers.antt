@@ -1,9 +1,8 @@
-use Rattle.std.proofs.Common.{◌≡◌, ◌∙◌, ap, subst}
+use Rattle.std.proofs.Common.{◌∙◌, subst}
 use Rattle.std.specs.Prelude.{Ok}
 use Rattle.std.proofs.lemmas.Result.{err_from_is_err_and}
 use Rattle.nb_core.specs.Calls.{Called}
 use Rattle.nb_core.specs.declared.answers.Taken.{Taken}
-use Rattle.nb_core.specs.declared.answers.Taken.TheVariants.{Got}
 use Rattle.nb_core.specs.declared.call.Answer.TheVariants as answer
 use Rattle.nb_core.specs.declared.call.Call.TheVariants as call
 use Rattle.nb_pump.proofs.Taking.{take_refused, got_holds, got_moment, lease_broken, lease_done, took_nothing, took_limit}

@@ -1,4 +1,4 @@
-use Rattle.std.proofs.Common.{◌≡◌, ℕ, ◌+◌, ◌-◌, ◌<◌, arith}
+use Rattle.std.proofs.Common.{◌-◌, arith}
 use Rattle.std.proofs.lemmas.Result.{err_from_is_err_and}
 use Rattle.nb_pump.proofs.Following.{unsent_refused, dispatch_start, may_send, dispatch_next, dispatch_refused, dispatch_end, dispatched}
 use Rattle.nb_pump.proofs.rest.dispatch.Goals as goal

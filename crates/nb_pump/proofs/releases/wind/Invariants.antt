@@ -1,0 +1,13 @@
+use Rattle.nb_core.specs.Calls.{state_of}
+use Rattle.nb_pump.specs.Drains.{waiting}
+use Rattle.nb_pump.proofs.Winding.{Winding}
+use Rattle.nb_pump.proofs.releases.wind.Given as goal
+
+abbrev pub invariant-loop-next : goal.invariant-loop-next
+invariant-loop-next g l =
+    Winding l.until l.now (g.D.Desk.view l.fn.desk) (g.D.Desk.view l.desk)
+    × (g.D.Desk.stands l.fn.desk → g.D.Desk.stands l.desk)
+    × (g.D.Desk.caused l.fn.desk → g.D.Desk.caused l.desk)
+
+abbrev pub decreases-loop-next : goal.decreases-loop-next
+decreases-loop-next g l = waiting (state_of (g.D.Desk.view l.desk))
