@@ -1,10 +1,10 @@
 -- A commit that puts one row leaves sound tables.
-use Rattle.std.specs.Prelude.{◌≡◌, ◌≢◌, ◌⊎◌, ◌≤◌, ℕ, ℤ, ◌+◌, List, [], ◌∷◌, cond, bytes_eq, Option, Some, None, unwrap_or, refl}
+use Rattle.std.specs.Prelude.{◌≡◌, ◌≢◌, ◌⊎◌, ◌≤◌, ℕ, ℤ, ◌+◌, List, [], ◌∷◌, cond, Some, None, unwrap_or, refl}
 use Rattle.std.proofs.Common.{◌∙◌, ap, sym, subst, inl, inr, arith}
 use Rattle.std.specs.Cmp.Lexicographic.{bytes_decides}
 use Rattle.std.specs.FinMap as map
 use Rattle.nb_base.proofs.Maps.{names, same_or_other, at_same, at_other}
-use Rattle.nb_base.specs.Messages.{Message, id_name}
+use Rattle.nb_base.specs.Messages.{id_name}
 use Rattle.nb_base.specs.Sound.{IsSoundTables, IsSoundSaga, IsSoundRecord, IsVersion, limit}
 use Rattle.nb_base.specs.declared.entry.OutboxRow.{OutboxRow}
 use Rattle.nb_base.specs.declared.plan.Write.TheVariants.{RowPut}
