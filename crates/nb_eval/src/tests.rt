@@ -98,10 +98,12 @@ fn made(alloc: Global, script: &str, kind: &str, body: &str) -> Result<String, N
 fn replied_to(verdict: &Verdict) -> &str {
     match verdict {
         Verdict::Done(plan) => match plan.intents.as_slice().first() {
-            Some(Intent {
-                target: Target::Reply { to },
-                ..
-            }) => to.as_str(),
+            Some(
+                Intent {
+                    target: Target::Reply { to },
+                    ..
+                },
+            ) => to.as_str(),
             _ => "",
         },
         Verdict::Fault(_) => "",
