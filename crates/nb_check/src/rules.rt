@@ -265,7 +265,7 @@ fn saga_scope(alloc: Global, saga: &Saga) -> Result<SagaScope, NoMemory>
     let correlation = saga.correlation.name.copy()?;
     let fields = FieldTable::new(alloc, saga_kinds(alloc, saga)?)?;
     let timeouts = timeouts(alloc, saga.parts.as_slice())?;
-    Ok(SagaScope::new(correlation, fields, timeouts))
+    SagaScope::new(alloc, correlation, fields, timeouts)
 }
 
 fn want_message(

@@ -1,12 +1,12 @@
 //! What is in sight of an expression, over the tables of a script.
-ghost use Rattle.std.specs.Prelude.{◌≡◌, ◌++◌, ◌∷◌, [], length, take, bytes_eq, option_copied, OnOk};
+ghost use Rattle.std.specs.Prelude.{◌≡◌, ◌++◌, ◌∷◌, [], length, take, bytes_eq, option_copied, IfOk, OnOk};
 ghost use Rattle.nb_check.specs.Kinds as kinds;
 ghost use Rattle.nb_check.specs.Statements as statements;
 
 use crate::locals::LocalTable;
 use crate::sight::Local;
-use crate::tables::FieldTable;
-use nb_base::{Names, NoMemory, Text};
+use crate::tables::{FieldTable, is_among, names_table};
+use nb_base::{ByName, Names, NoMemory, Text};
 use nb_script::expr::Holder;
 use nb_script::item::FieldKind;
 use std::alloc::Global;
@@ -18,26 +18,37 @@ pub(crate) struct SagaScope {
     correlation: Text,
     fields: FieldTable,
     timeouts: Names,
+    timeout_table: ByName<bool>,
 }
 
 impl Model for SagaScope {
     ghost use Rattle.nb_check.specs.declared.sight.SagaSight.{SagaSight};
+    ghost use Rattle.nb_check.specs.Tables.{AreNames};
 
     ghost Value = { SagaSight };
 
     ghost view = { λ s. record { correlation = s.correlation; fields = s.fields; timeouts = s.timeouts } };
+
+    ghost invariant = { λ s. AreNames s.timeout_table s.timeouts };
 }
 
 impl SagaScope {
     /// The correlation property stands among the fields too.
-    pub(crate) fn new(correlation: Text, fields: FieldTable, timeouts: Names) -> SagaScope
-        ensures { result ≡ record { correlation = correlation; fields = fields; timeouts = timeouts } }
+    pub(crate) fn new(
+        alloc: Global,
+        correlation: Text,
+        fields: FieldTable,
+        timeouts: Names,
+    ) -> Result<SagaScope, NoMemory>
+        ensures { IfOk result (λ s. s ≡ record { correlation = correlation; fields = fields; timeouts = timeouts }) }
     {
-        SagaScope {
+        let timeout_table = names_table(alloc, timeouts.as_slice())?;
+        Ok(SagaScope {
             correlation,
             fields,
             timeouts,
-        }
+            timeout_table,
+        })
     }
 
     /// Whether the name is that of the correlation property.
@@ -57,19 +68,8 @@ impl SagaScope {
     pub(crate) fn has_timeout(&self, name: &Text) -> bool
         ensures { result ≡ statements.has_name name.now self.now.timeouts }
     {
-        has_name(name, self.timeouts.as_slice())
+        is_among(&self.timeout_table, name)
     }
-}
-
-fn has_name(name: &Text, names: &[Text]) -> bool
-    ensures { result ≡ statements.has_name name.now names.now }
-{
-    for n in names {
-        if *n == *name {
-            return true;
-        }
-    }
-    false
 }
 
 /// What is in sight of an expression.

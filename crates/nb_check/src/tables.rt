@@ -4,7 +4,7 @@ ghost use Rattle.std.specs.FinMap as names;
 ghost use Rattle.nb_script.specs.Tree as tree;
 ghost use Rattle.nb_check.specs.Kinds as kinds;
 ghost use Rattle.nb_check.specs.Statements as statements;
-ghost use Rattle.nb_check.specs.Tables.{AreKinds, AreFields, AreGiven, with_first};
+ghost use Rattle.nb_check.specs.Tables.{AreKinds, AreFields, AreGiven, AreNames, with_first};
 
 use crate::types::{Declared, MessageType};
 use nb_base::{ByName, Copied, Items, NoMemory, Text};
@@ -150,4 +150,16 @@ pub(crate) fn given_names(alloc: Global, args: &[Arg]) -> Result<ByName<u32>, No
         given.insert(name, a.at)?;
     }
     Ok(given)
+}
+
+/// The names of a list, with no more said of them than that they are there.
+pub(crate) fn names_table(alloc: Global, names: &[Text]) -> Result<ByName<bool>, NoMemory>
+    ensures { IfOk result (λ table. AreNames table names.now) }
+{
+    let mut table = ByName::new(alloc);
+    for n in names {
+        let name = n.copy()?;
+        table.insert(name, true)?;
+    }
+    Ok(table)
 }
