@@ -4,3 +4,4 @@ pub mod Settling
 pub mod Taking
 pub mod Views
 pub mod Winding
+pub mod Working

@@ -1,5 +1,5 @@
 -- What releases, ticks, leases one after another and a drain do, at a desk whose caller has every worker.
-use Rattle.std.specs.Prelude.{◌≡◌, ℕ, zero, suc, ◌+◌, ◌<◌, ◌≤◌, List, [], ◌++◌, Bool, false, if◌then◌else◌, Option, Some, None, Result, Ok, Err}
+use Rattle.std.specs.Prelude.{◌≡◌, ℕ, zero, suc, ◌+◌, ◌<◌, ◌≤◌, List, [], ◌++◌, Bool, false, if◌then◌else◌, Option, Some, None, Result, Ok, Err, true}
 use Rattle.std.specs.Option.{is_some}
 use Rattle.std.specs.FinMap as map
 use Rattle.nb_base.specs.Orders.{ByNumber}
@@ -91,3 +91,19 @@ pub record WindIs (until : ℕ) (r : Result (Option ℕ) DeskFault) (v w : View)
   pub own : List Event
   pub made : Made v own w
   pub end : WindEnd until r own v w
+
+-- ---- leases of worker 0, one after another
+
+abbrev pub TurnsEnd : Result Bool DeskFault → List Event → View → View → Type 0
+TurnsEnd (Ok true) own v w =
+    ((until : ℕ) → Leads (constants v.fixed) until working (state_of v) own working (state_of w)) × Standing w × (halted w.events ≡ false) × ((state_of w).moment ≡ (state_of v).moment)
+    × (takes w.events < w.fixed.turns) × IsOwnEmpty (constants w.fixed) (state_of w) × ((IsOwnEmpty (constants v.fixed) (state_of v) → ⊥) → takes v.events < takes w.events)
+TurnsEnd (Ok false) own v w =
+    ((until : ℕ) → Pace (constants v.fixed) until working (state_of v) own) × Standing w × (halted w.events ≡ false) × (w.fixed.turns ≤ takes w.events)
+TurnsEnd (Err f) own v w = ((until : ℕ) → Pace (constants v.fixed) until working (state_of v) own) × IsCause f w
+
+-- leases until nothing is free, or until no Take is left; or a fault came
+pub record TurnsAre (r : Result Bool DeskFault) (v w : View) : Type 0 where
+  pub own : List Event
+  pub made : Made v own w
+  pub end : TurnsEnd r own v w
