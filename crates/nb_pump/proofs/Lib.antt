@@ -1,3 +1,4 @@
+pub mod Draining
 pub mod Following
 pub mod Releasing
 pub mod Settling

@@ -240,7 +240,7 @@ winding_found until to v u w r c =
     rests : (m : Moved u [] w) → halted (u.events ++ m.others) ≡ false → Settled until to v w → Rests v w
     rests m off s = record { standing = s.standing; on = (rests_still r.standing m off).on; takes_are = s.takes_are }
 
-asks_none : (f : DeskFault) (to : ℕ) (fixed : Fixed) (es own : List Event) → Refuses fixed es (call.IsDrained to) f own → own ≡ []
+pub asks_none : (f : DeskFault) (to : ℕ) (fixed : Fixed) (es own : List Event) → Refuses fixed es (call.IsDrained to) f own → own ≡ []
 asks_none StoreFailed to fixed es own r = absurd (cc)
 asks_none PostFailed to fixed es own r = absurd (cc)
 asks_none Spent to fixed es own r = r.0

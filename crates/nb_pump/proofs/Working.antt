@@ -280,7 +280,7 @@ working_nothing moment v u x r t =
         (λ full. ⊎_elim
             (λ (lt : takes v.events < takes u.events). (omega (arith, lt, count)))
             (λ (e : (state_of u ≡ state_of v) × (u.fixed ≡ v.fixed) × (takes u.events ≡ takes v.events)).
-                absurd (full (subst (λ (y : Fixed × State). IsOwnEmpty (constants y.0) y.1) (λ i. ((m.fixed ∙ e.1) i, (is ∙ e.0) i)) empty)))
+            absurd (full (subst (λ (y : Fixed × State). IsOwnEmpty (constants y.0) y.1) (λ i. ((m.fixed ∙ e.1) i, (is ∙ e.0) i)) empty)))
             r.took),
       );
     }

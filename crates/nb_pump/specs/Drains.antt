@@ -107,3 +107,17 @@ pub record TurnsAre (r : Result Bool DeskFault) (v w : View) : Type 0 where
   pub own : List Event
   pub made : Made v own w
   pub end : TurnsEnd r own v w
+
+-- ---- the drain
+
+abbrev pub DrainEnd : ℕ → Result Bool DeskFault → View → Type 0
+DrainEnd until (Ok true) w = (halted w.events ≡ false) × Drained (constants w.fixed) (state_of w) until
+DrainEnd until (Ok false) w = (halted w.events ≡ false) × (Drained (constants w.fixed) (state_of w) until → ⊥) × (w.fixed.turns ≤ takes w.events)
+DrainEnd until (Err f) w = IsCause f w
+
+-- events in pace, from this mode on, at whose end the state is drained, or no Take is left; or a fault came
+pub record DrainIs (until : ℕ) (mode : Mode) (r : Result Bool DeskFault) (v w : View) : Type 0 where
+  pub own : List Event
+  pub made : Made v own w
+  pub paced : Pace (constants v.fixed) until mode (state_of v) own
+  pub end : DrainEnd until r w
