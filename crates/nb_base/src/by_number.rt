@@ -1,5 +1,5 @@
 //! A finite map from numbers.
-ghost use Rattle.std.specs.Prelude.{◌≡◌, OnOk, OnErr, None};
+ghost use Rattle.std.specs.Prelude.{◌≡◌, OnOk, OnErr, IsSome, Some, None};
 ghost use Rattle.std.specs.Option.{option_copied};
 ghost use Rattle.std.specs.Ordering.{nat_cmp};
 ghost use Rattle.std.specs.FinMap as map;
@@ -61,6 +61,19 @@ impl<V: Drop> ByNumber<V> {
     {
         self.tree.insert(number, value)?;
         Ok(())
+    }
+
+    /// Puts a value in the place of the one under a number, and hands that one out.
+    pub fn replace(&mut self, number: u64, value: V) -> V
+        requires { IsSome (map.get self.old number) }
+        ensures value { map.get self.old number ≡ Some result }
+        ensures rest { self.new ≡ map.insert self.old number value }
+    {
+        let Ok(found) = self.tree.insert(number, value) else {
+            unreachable!()
+        };
+        let Some(old) = found else { unreachable!() };
+        old
     }
 
     /// Takes the value under a number out.

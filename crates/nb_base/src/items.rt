@@ -1,5 +1,5 @@
 //! A small list of any kind of items, which contracts see as a list.
-ghost use Rattle.std.specs.Prelude.{◌≡◌, ◌<◌, ◌++◌, ◌^◌, ◌∷◌, [], length, slice_get, Some, IfOk, OnOk, OnErr, IsTrue, ◌↔◌};
+ghost use Rattle.std.specs.Prelude.{◌≡◌, ◌<◌, ◌≤◌, ◌++◌, ◌^◌, ◌∷◌, [], length, slice_get, Some, IfOk, OnOk, OnErr, IsTrue, ◌↔◌};
 
 use crate::no_memory::NoMemory;
 use std::alloc::Global;
@@ -80,7 +80,9 @@ impl<T> Items<T> {
 impl<T: Drop> Items<T> {
     /// The same items, with no copy.
     pub fn of_vec(inner: Vec<T>) -> Result<Items<T>, NoMemory>
-        ensures { IfOk result (λ x. x ≡ inner.items) }
+        ensures value { IfOk result (λ x. x ≡ inner.items) }
+        // Only too many are refused.
+        ensures only_long { OnErr result (2 ^ 32 ≤ length inner.items) }
     {
         if inner.len() >= 1 << 32 {
             return Err(NoMemory);

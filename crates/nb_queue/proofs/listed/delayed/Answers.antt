@@ -16,4 +16,4 @@ returns c =
       order = c.in_ok-sort_by_key.ensures.sorted due_of key;
       ties = subst (λ xs. IsStableByKey due_of nat_cmp xs list) is (c.in_ok-sort_by_key.ensures.stable due_of key);
     } in
-    IfOk-weaker c.of_vec.result _ _ (λ x same. subst (AreDelayed c.args.entries.now) (sym same) delayed) c.of_vec.ensures
+    IfOk-weaker c.of_vec.result _ _ (λ x same. subst (AreDelayed c.args.entries.now) (sym same) delayed) c.of_vec.ensures.value
