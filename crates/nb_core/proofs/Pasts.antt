@@ -40,7 +40,7 @@ run_from f xs ys l =
 -- ---- one event more
 
 -- the event isn't one Take too many after m of them
-pub IsAllowed : ℕ → ℕ → Event → Type 0
+unfoldable pub IsAllowed : ℕ → ℕ → Event → Type 0
 IsAllowed turns m (Load x) = Unit {0}
 IsAllowed turns m (Take w) = m < turns
 IsAllowed turns m (Look w) = Unit {0}

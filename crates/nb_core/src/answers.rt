@@ -63,6 +63,11 @@ pub enum DeskFault {
 }
 
 impl From<NoMemory> for DeskFault {
+    ghost use Rattle.std.specs.Prelude.{◌≡◌};
+    ghost use Rattle.nb_core.specs.declared.answers.DeskFault.TheVariants.{NoMemory};
+
+    ghost from_gives = { λ _ e. e ≡ NoMemory };
+
     fn from(_refused: NoMemory) -> DeskFault {
         DeskFault::NoMemory
     }
