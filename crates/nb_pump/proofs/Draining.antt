@@ -11,9 +11,10 @@ use Rattle.nb_core.specs.declared.event.Event.{Event}
 use Rattle.nb_core.specs.declared.state.State.{State}
 use Rattle.nb_core.specs.Drained.{Drained}
 use Rattle.nb_core.specs.Legal.{halted}
-use Rattle.nb_pump.specs.Drains.{Standing, Leads, ReleasesAre, WindIs, TurnsAre, DrainIs}
+use Rattle.nb_pump.specs.Drains.{Standing, Leads, HasTake, StopsAtLimit, ReleasesAre, WindIs, TurnsAre, DrainIs}
 use Rattle.nb_pump.specs.Made.{Moved, Made}
 use Rattle.nb_pump.proofs.Following.{refused, seen_after}
+use Rattle.nb_pump.proofs.Limits.{limit_more, limit_same, limit_turns, left_still}
 use Rattle.nb_pump.proofs.Releasing.{events_here}
 use Rattle.nb_pump.proofs.Winding.{asks_none}
 use Rattle.nb_pump.proofs.Views.{moved_as, made_append, made_kept, moved_none, stays}
@@ -25,6 +26,7 @@ pub record Limited (until : ℕ) (mode : Mode) (v u : View) : Type 0 where
   pub own : List Event
   pub made : Made v own u
   pub paced : Pace (constants v.fixed) until mode (state_of v) own
+  pub limit : StopsAtLimit v own
   pub standing : Standing u
   pub spent : u.fixed.turns ≤ takes u.events
 
@@ -38,6 +40,7 @@ asked_last until mode (Ok true) v u w l c =
       own = l.own;
       made = still until mode v u w l m;
       paced = l.paced;
+      limit = l.limit;
       end = (
         ap (λ (es : List Event). halted es) (seen_after u w m) ∙ c.gives.1,
         subst (λ (y : Fixed × State). Drained (constants y.0) y.1 until) (λ i. (sym m.fixed i, sym (stays m) i)) c.gives.2,
@@ -49,6 +52,7 @@ asked_last until mode (Ok false) v u w l c =
       own = l.own;
       made = still until mode v u w l m;
       paced = l.paced;
+      limit = l.limit;
       end = (
         ap (λ (es : List Event). halted es) (seen_after u w m) ∙ c.gives.1,
         subst (λ (y : Fixed × State). Drained (constants y.0) y.1 until → ⊥) (λ i. (sym m.fixed i, sym (stays m) i)) c.gives.2,
@@ -61,6 +65,7 @@ asked_last until mode (Err f) v u w l c =
       own = l.own;
       made = still until mode v u w l m;
       paced = l.paced;
+      limit = l.limit;
       end = (refused (call.IsDrained until) (answer.IsDrained (Err f)) f u w c c.gives).1;
     }
 
@@ -71,19 +76,23 @@ pub record Draining (until now : ℕ) (v u : View) : Type 0 where
   pub own : List Event
   pub made : Made v own u
   pub leads : Leads (constants v.fixed) until working (state_of v) own working (state_of u)
+  pub limit : StopsAtLimit v own
+  pub left : HasTake v → HasTake u
   pub standing : Standing u
   pub now_is : (state_of u).moment ≡ now
   pub empty : IsOwnEmpty (constants u.fixed) (state_of u)
   pub same : u.fixed ≡ v.fixed
 
 pub draining_start : (until now : ℕ) (v : View) → Standing v → (state_of v).moment ≡ now → IsOwnEmpty (constants v.fixed) (state_of v) → Draining until now v v
-draining_start until now v st is empty = record { own = []; made = moved_none v st.legal; leads = λ rest p. p; standing = st; now_is = is; empty = empty; same = refl }
+draining_start until now v st is empty = record { own = []; made = moved_none v st.legal; leads = λ rest p. p; limit = λ left. tt; left = λ left. left; standing = st; now_is = is; empty = empty; same = refl }
 
 -- time went on
 pub record Wound (until now : ℕ) (v u : View) : Type 0 where
   pub own : List Event
   pub made : Made v own u
   pub leads : Leads (constants v.fixed) until working (state_of v) own working (state_of u)
+  pub limit : StopsAtLimit v own
+  pub left : HasTake v → HasTake u
   pub standing : Standing u
   pub now_is : (state_of u).moment ≡ now
   pub full : IsOwnEmpty (constants u.fixed) (state_of u) → ⊥
@@ -99,6 +108,8 @@ pub wound : (until now later : ℕ) (v u w : View) → Draining until now v u �
 wound until now later v u w r x = record {
   own = r.own ++ x.own;
   made = made_append v u w r.own x.own r.made x.made;
+  limit = limit_more v u r.own x.own r.standing.owns r.made r.left r.limit x.limit;
+  left = λ left. left_still u w x.own x.made x.end.1.takes_are (r.left left);
   leads = both until v u w r.own x.own r.same r.leads x.end.0;
   standing = x.end.1.standing;
   now_is = x.end.2;
@@ -110,6 +121,7 @@ pub draining_done : (until now : ℕ) (v u w : View) → Draining until now v u 
 draining_done until now v u w r x = record {
   own = r.own ++ x.own;
   made = made_append v u w r.own x.own r.made x.made;
+  limit = limit_more v u r.own x.own r.standing.owns r.made r.left r.limit x.limit;
   paced = subst (λ (es : List Event). Pace (constants v.fixed) until working (state_of v) es) (append-nil (r.own ++ x.own)) (both until v u w r.own x.own r.same r.leads x.end.0 [] ended);
   end = (x.end.1.on, x.end.2);
 }
@@ -118,6 +130,7 @@ pub draining_unwound : (until now : ℕ) (f : DeskFault) (v u w : View) → Drai
 draining_unwound until now f v u w r x = record {
   own = r.own ++ x.own;
   made = made_append v u w r.own x.own r.made x.made;
+  limit = limit_more v u r.own x.own r.standing.owns r.made r.left r.limit x.limit;
   paced = r.leads x.own (subst (λ (y : Fixed). Pace (constants y) until working (state_of u) x.own) r.same x.end.0);
   end = x.end.1;
 }
@@ -126,6 +139,8 @@ pub draining_more : (until now : ℕ) (v u w : View) → Wound until now v u →
 draining_more until now v u w r x = record {
   own = r.own ++ x.own;
   made = made_append v u w r.own x.own r.made x.made;
+  limit = limit_more v u r.own x.own r.standing.owns r.made r.left r.limit (limit_turns u x.own x.of_turns);
+  left = λ left. x.end.4;
   leads = both until v u w r.own x.own r.same r.leads (x.end.0 until);
   standing = x.end.1;
   now_is = x.end.3 ∙ r.now_is;
@@ -146,6 +161,7 @@ pub draining_limit : (until now : ℕ) (v u w : View) → Wound until now v u �
 draining_limit until now v u w r x = record {
   own = r.own ++ x.own;
   made = made_append v u w r.own x.own r.made x.made;
+  limit = limit_more v u r.own x.own r.standing.owns r.made r.left r.limit (limit_turns u x.own x.of_turns);
   paced = r.leads x.own (subst (λ (y : Fixed). Pace (constants y) until working (state_of u) x.own) r.same (x.end.0 until));
   standing = x.end.1;
   spent = x.end.3;
@@ -155,6 +171,7 @@ pub draining_broken : (until now : ℕ) (f : DeskFault) (v u w : View) → Wound
 draining_broken until now f v u w r x = record {
   own = r.own ++ x.own;
   made = made_append v u w r.own x.own r.made x.made;
+  limit = limit_more v u r.own x.own r.standing.owns r.made r.left r.limit (limit_turns u x.own x.of_turns);
   paced = r.leads x.own (subst (λ (y : Fixed). Pace (constants y) until working (state_of u) x.own) r.same (x.end.0 until));
   end = x.end.1;
 }
@@ -165,7 +182,7 @@ pub fixed_after : (r : Result (Unit {0}) DeskFault) (v u : View) → ReleasesAre
 fixed_after r v u x = (made_kept v u x.own x.made).1
 
 pub drain_unreleased : (until : ℕ) (f : DeskFault) (v u : View) → ReleasesAre (Err f) v u → DrainIs until releasing (Err f) v u
-drain_unreleased until f v u x = record { own = x.own; made = x.made; paced = x.end.0 until; end = x.end.1 }
+drain_unreleased until f v u x = record { own = x.own; made = x.made; paced = x.end.0 until; limit = x.limit; end = x.end.1 }
 
 -- what is in pace of workers behind the releases, is in pace
 behind : (until : ℕ) (v u : View) (x : ReleasesAre (Ok tt) v u) (es : List Event) → Pace (constants u.fixed) until working (state_of u) es → Pace (constants v.fixed) until releasing (state_of v) (x.own ++ es)
@@ -175,6 +192,7 @@ pub drain_broken : (until : ℕ) (f : DeskFault) (v u w : View) → ReleasesAre 
 drain_broken until f v u w x y = record {
   own = x.own ++ y.own;
   made = made_append v u w x.own y.own x.made y.made;
+  limit = limit_same v u x.own y.own x.end.1.standing.owns x.made x.end.1.takes_are x.limit (limit_turns u y.own y.of_turns);
   paced = behind until v u x y.own (y.end.0 until);
   end = y.end.1;
 }
@@ -183,6 +201,7 @@ pub drain_limit : (until : ℕ) (v u w : View) → ReleasesAre (Ok tt) v u → T
 drain_limit until v u w x y = record {
   own = x.own ++ y.own;
   made = made_append v u w x.own y.own x.made y.made;
+  limit = limit_same v u x.own y.own x.end.1.standing.owns x.made x.end.1.takes_are x.limit (limit_turns u y.own y.of_turns);
   paced = behind until v u x y.own (y.end.0 until);
   standing = y.end.1;
   spent = y.end.3;
@@ -194,6 +213,8 @@ drain_rounds until r v u w z x y d =
     record {
       own = x.own ++ (y.own ++ d.own);
       made = made_append v u z x.own (y.own ++ d.own) x.made (made_append u w z y.own d.own y.made d.made);
+      limit = limit_same v u x.own (y.own ++ d.own) x.end.1.standing.owns x.made x.end.1.takes_are x.limit
+          (limit_more u w y.own d.own y.end.1.owns y.made (λ left. y.end.4) (limit_turns u y.own y.of_turns) d.limit);
       paced = behind until v u x (y.own ++ d.own) (y.end.0 until d.own (subst (λ (f : Fixed). Pace (constants f) until working (state_of w) d.own) fixed d.paced));
       end = d.end;
     }

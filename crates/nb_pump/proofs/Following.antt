@@ -48,8 +48,8 @@ pub seen_after : (v u : View) (m : Moved v [] u) → u.events ≡ v.events ++ m.
 seen_after v u m = m.events ∙ append-nil (v.events ++ m.others)
 
 causes : (x : Call) (f : DeskFault) (v u : View) (m : Moved v (stop_of f) u) → Refuses v.fixed (v.events ++ m.others) x f (stop_of f) → IsCause f u
-causes x StoreFailed v u m r = tt
-causes x PostFailed v u m r = tt
+causes x StoreFailed v u m r = (v.events ++ m.others, m.events)
+causes x PostFailed v u m r = (v.events ++ m.others, m.events)
 causes x Spent v u m r =
     let same = seen_after v u m in
     (ap (λ (es : List Event). halted es) same ∙ r.1, (x, subst (λ (y : Fixed × State). IsSpent (constants y.0) y.1 x) (λ i. (sym m.fixed i, sym (stays m) i)) r.2))

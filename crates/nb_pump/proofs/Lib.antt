@@ -1,5 +1,7 @@
 pub mod Draining
 pub mod Following
+pub mod Going
+pub mod Limits
 pub mod Releasing
 pub mod Settling
 pub mod Taking

@@ -31,10 +31,11 @@ use Rattle.nb_core.specs.declared.call.Call.TheVariants as call
 use Rattle.nb_core.specs.declared.event.Event.{Event}
 use Rattle.nb_core.specs.declared.event.Event.TheVariants.{Release}
 use Rattle.nb_core.specs.declared.state.State.{State}
-use Rattle.nb_pump.specs.Drains.{Standing, Leads, waits, waiting_below, waiting, NoneBy, Rests, DueIs, ReleasesAre}
+use Rattle.nb_pump.specs.Drains.{Standing, Leads, waits, waiting_below, waiting, StopsAtLimit, NoneBy, Rests, DueIs, ReleasesAre}
 use Rattle.nb_pump.specs.Leases.{stop_of}
 use Rattle.nb_pump.specs.Made.{Moved, Made}
 use Rattle.nb_pump.proofs.Following.{refused, seen_after}
+use Rattle.nb_pump.proofs.Limits.{limit_same, limit_stop}
 use Rattle.nb_pump.proofs.Views.{moved_as, owns_all_same, made_append, made_one, made_kept, moved_none, stepped, stays, before, holding_of}
 
 -- ---- where every worker is the caller's
@@ -172,6 +173,7 @@ pub record Releasing (moment : ℕ) (v u : View) : Type 0 where
   pub own : List Event
   pub made : Made v own u
   pub leads : (until : ℕ) → Leads (constants v.fixed) until releasing (state_of v) own releasing (state_of u)
+  pub limit : StopsAtLimit v own
   pub standing : Standing u
   pub takes_are : takes u.events ≡ takes v.events
   pub same : (state_of u).moment ≡ (state_of v).moment
@@ -184,6 +186,7 @@ releasing_start moment v st now = record {
   own = [];
   made = moved_none v st.legal;
   leads = λ until. leads_none (constants v.fixed) until (state_of v) (state_of v) refl;
+  limit = λ left. tt;
   standing = st;
   takes_are = refl;
   same = refl;
@@ -202,6 +205,7 @@ releasing_asked moment v u x r m rests =
       own = r.own;
       made = subst (λ (es : List Event). Made v es x) (append-nil r.own) (made_append v u x r.own [] r.made m);
       leads = λ until rest p. r.leads until rest (subst (λ (s : State). Pace (constants v.fixed) until releasing s rest) is p);
+      limit = r.limit;
       standing = rests.standing;
       takes_are = rests.takes_are ∙ r.takes_are;
       same = ap (λ (s : State). s.moment) is ∙ r.same;
@@ -236,6 +240,7 @@ releasing_more moment y v u x r next le c =
       own = r.own ++ Release y.number ∷ [];
       made = made_append v u x r.own (Release y.number ∷ []) r.made (made_one u x (Release y.number) m);
       leads = λ until. leads_release (constants v.fixed) until (state_of v) (state_of u) (state_of x) r.own y.number y.due (r.leads until) next (omega arith) is;
+      limit = limit_same v u r.own (Release y.number ∷ []) r.standing.owns r.made r.takes_are r.limit (λ left. (left, tt));
       standing = standing_on r.standing m k.idle;
       takes_are = takes_push m r.standing.owns ∙ r.takes_are;
       same = k.moment ∙ r.same;
@@ -262,6 +267,7 @@ releasing_done moment v u r none off =
     record {
       own = r.own;
       made = r.made;
+      limit = r.limit;
       end = (
         r.leads,
         record { standing = r.standing; on = off; takes_are = r.takes_are },
@@ -283,6 +289,7 @@ pub releasing_unasked : (moment : ℕ) (f : DeskFault) (v u x : View) → Releas
 releasing_unasked moment f v u x r d = record {
   own = r.own;
   made = subst (λ (es : List Event). Made v es x) (append-nil r.own) (made_append v u x r.own [] r.made d.0);
+  limit = r.limit;
   end = ((λ until. subst (λ (es : List Event). Pace (constants v.fixed) until releasing (state_of v) es) (append-nil r.own) (r.leads until [] ended)), d.1);
 }
 
@@ -293,6 +300,7 @@ releasing_refused moment n f v u x r c =
     record {
       own = r.own ++ stop_of f;
       made = made_append v u x r.own (stop_of f) r.made k.0;
+      limit = limit_same v u r.own (stop_of f) r.standing.owns r.made r.takes_are r.limit (limit_stop u f);
       end = ((λ until. r.leads until (stop_of f) (stopped f until)), k.1);
     }
   where

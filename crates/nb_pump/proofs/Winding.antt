@@ -20,10 +20,11 @@ use Rattle.nb_core.specs.declared.call.Call.TheVariants as call
 use Rattle.nb_core.specs.declared.event.Event.{Event}
 use Rattle.nb_core.specs.declared.event.Event.TheVariants.{Tick}
 use Rattle.nb_core.specs.declared.state.State.{State}
-use Rattle.nb_pump.specs.Drains.{Standing, Leads, waiting, HasDue, NoneBy, Rests, DueIs, ReleasesAre, WindIs}
+use Rattle.nb_pump.specs.Drains.{Standing, Leads, StopsAtLimit, waiting, HasDue, NoneBy, Rests, DueIs, ReleasesAre, WindIs}
 use Rattle.nb_pump.specs.Leases.{stop_of}
 use Rattle.nb_pump.specs.Made.{Moved, Made}
 use Rattle.nb_pump.proofs.Following.{refused}
+use Rattle.nb_pump.proofs.Limits.{limit_same, limit_stop}
 use Rattle.nb_pump.proofs.Releasing.{same_here, step_here, standing_on, rests_still, events_here}
 use Rattle.nb_pump.proofs.Views.{moved_as, made_append, made_one, made_kept, moved_none, stays}
 
@@ -44,6 +45,7 @@ pub record Winding (until now : ℕ) (v u : View) : Type 0 where
   pub own : List Event
   pub made : Made v own u
   pub leads : Leads (constants v.fixed) until working (state_of v) own working (state_of u)
+  pub limit : StopsAtLimit v own
   pub standing : Standing u
   pub takes_are : takes u.events ≡ takes v.events
   pub now_is : (state_of u).moment ≡ now
@@ -54,6 +56,7 @@ winding_start until now v st is empty = record {
   own = [];
   made = moved_none v st.legal;
   leads = λ rest p. p;
+  limit = λ left. tt;
   standing = st;
   takes_are = refl;
   now_is = is;
@@ -67,6 +70,7 @@ winding_asked until now v u x r m rests =
     record {
       own = r.own;
       made = subst (λ (es : List Event). Made v es x) (append-nil r.own) (made_append v u x r.own [] r.made m);
+      limit = r.limit;
       leads = λ rest p. r.leads rest (subst (λ (s : State). Pace (constants v.fixed) until working s rest) is p);
       standing = rests.standing;
       takes_are = rests.takes_are ∙ r.takes_are;
@@ -78,6 +82,7 @@ pub winding_unasked : (until now : ℕ) (f : DeskFault) (v u x : View) → Windi
 winding_unasked until now f v u x r d = record {
   own = r.own;
   made = subst (λ (es : List Event). Made v es x) (append-nil r.own) (made_append v u x r.own [] r.made d.0);
+  limit = r.limit;
   end = (subst (λ (es : List Event). Pace (constants v.fixed) until working (state_of v) es) (append-nil r.own) (r.leads [] ended), d.1);
 }
 
@@ -86,6 +91,7 @@ pub winding_over : (until now : ℕ) (v u : View) → Winding until now v u → 
 winding_over until now v u r off none = record {
   own = r.own;
   made = r.made;
+  limit = r.limit;
   end = (r.leads, record { standing = r.standing; on = off; takes_are = r.takes_are }, record { idle = r.standing.idle; empty = r.empty; later = none });
 }
 
@@ -97,6 +103,7 @@ pub record Started (until to : ℕ) (v u : View) : Type 0 where
   pub own : List Event
   pub made : Made v own u
   pub leads : Leads (constants v.fixed) until working (state_of v) own releasing (state_of u)
+  pub limit : StopsAtLimit v own
   pub standing : Standing u
   pub takes_are : takes u.events ≡ takes v.events
   pub now_is : (state_of u).moment ≡ to
@@ -124,6 +131,7 @@ winding_ticked until now to x v u w r next le is c =
     record {
       own = r.own ++ Tick to ∷ [];
       made = made_append v u w r.own (Tick to ∷ []) r.made (made_one u w (Tick to) m);
+      limit = limit_same v u r.own (Tick to ∷ []) r.standing.owns r.made r.takes_are r.limit (λ left. (left, tt));
       leads = λ rest p. subst (λ (es : List Event). Pace (constants v.fixed) until working (state_of v) es) (sym (append_assoc r.own (Tick to ∷ []) rest))
           (r.leads (Tick to ∷ rest) (tick empty next le same (subst (λ (s : State). Pace (constants v.fixed) until releasing s rest) there p)));
       standing = standing_on r.standing m k.idle;
@@ -142,6 +150,7 @@ winding_unticked until now to f v u w r c =
     record {
       own = r.own ++ stop_of f;
       made = made_append v u w r.own (stop_of f) r.made k.0;
+      limit = limit_same v u r.own (stop_of f) r.standing.owns r.made r.takes_are r.limit (limit_stop u f);
       end = (r.leads (stop_of f) (stopped f), k.1);
     }
   where
@@ -159,6 +168,7 @@ pub record Settled (until to : ℕ) (v u : View) : Type 0 where
   pub own : List Event
   pub made : Made v own u
   pub leads : Leads (constants v.fixed) until working (state_of v) own working (state_of u)
+  pub limit : StopsAtLimit v own
   pub standing : Standing u
   pub takes_are : takes u.events ≡ takes v.events
   pub now_is : (state_of u).moment ≡ to
@@ -175,6 +185,7 @@ winding_released until to v u w r x =
     record {
       own = r.own ++ x.own;
       made = made_append v u w r.own x.own r.made x.made;
+      limit = limit_same v u r.own x.own r.standing.owns r.made r.takes_are r.limit x.limit;
       leads = λ rest p. subst (λ (es : List Event). Pace (constants v.fixed) until working (state_of v) es) (sym (append_assoc r.own x.own rest))
           (r.leads (x.own ++ rest) (leads rest (released x.end.3 p)));
       standing = x.end.1.standing;
@@ -192,6 +203,7 @@ winding_unreleased until to f v u w r x =
     record {
       own = r.own ++ x.own;
       made = made_append v u w r.own x.own r.made x.made;
+      limit = limit_same v u r.own x.own r.standing.owns r.made r.takes_are r.limit x.limit;
       end = (r.leads x.own (subst (λ (c : Fixed). Pace (constants c) until releasing (state_of u) x.own) fixed (x.end.0 until)), x.end.1);
     }
 
@@ -201,6 +213,7 @@ settled_still until to v u w r m =
     record {
       own = r.own;
       made = subst (λ (es : List Event). Made v es w) (append-nil r.own) (made_append v u w r.own [] r.made m);
+      limit = r.limit;
       leads = λ rest p. r.leads rest (subst (λ (s : State). Pace (constants v.fixed) until working s rest) is p);
       standing = standing_on r.standing m (subst AllIdle (sym is) r.standing.idle);
       takes_are = ap (λ (es : List Event). takes es) (events_here m r.standing.owns) ∙ r.takes_are;
@@ -214,7 +227,7 @@ winding_on until to v u w r c =
     let m : Moved u [] w = moved_as c [] c.gives.0 in
     let s = settled_still until to v u w r m in
     let drained : Drained (constants w.fixed) (state_of w) to = subst (λ (y : Fixed × State). Drained (constants y.0) y.1 to) (λ i. (sym m.fixed i, sym (stays m) i)) c.gives.2 in
-    record { own = s.own; made = s.made; leads = s.leads; standing = s.standing; takes_are = s.takes_are; now_is = s.now_is; empty = drained.empty }
+    record { own = s.own; made = s.made; limit = s.limit; leads = s.leads; standing = s.standing; takes_are = s.takes_are; now_is = s.now_is; empty = drained.empty }
 
 pub drained_waits : (until to : ℕ) (v u w : View) → Settled until to v u → Called (call.IsDrained to) (answer.IsDrained (Ok true)) u w → waiting (state_of w) ≡ waiting (state_of u)
 drained_waits until to v u w r c = let m : Moved u [] w = moved_as c [] c.gives.0 in ap waiting (same_here m r.standing.owns)
@@ -229,6 +242,7 @@ winding_found until to v u w r c =
     record {
       own = s.own;
       made = s.made;
+      limit = s.limit;
       end = (
         s.leads,
         rests m c.gives.1 s,
@@ -254,6 +268,7 @@ winding_unknown until to f v u w r c =
     record {
       own = s.own;
       made = s.made;
+      limit = s.limit;
       end = (subst (λ (es : List Event). Pace (constants v.fixed) until working (state_of v) es) (append-nil s.own) (s.leads [] ended), (refused (call.IsDrained to) (answer.IsDrained (Err f)) f u w c c.gives).1);
     }
 

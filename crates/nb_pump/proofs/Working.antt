@@ -25,6 +25,7 @@ use Rattle.nb_pump.specs.Drains.{Standing, Leads, TurnsAre}
 use Rattle.nb_pump.specs.Leases.{IsOfLease, stop_of, TurnIs}
 use Rattle.nb_pump.specs.Made.{Made}
 use Rattle.nb_pump.specs.declared.outcome.Turn.TheVariants.{Ended, Nothing, Limit}
+use Rattle.nb_pump.proofs.Limits.{taken_append}
 use Rattle.nb_pump.proofs.Releasing.{standing_on, same_here, events_here}
 use Rattle.nb_pump.proofs.Views.{owns_all_same, made_alone, made_append, made_kept, made_legal, moved_none, holding_of}
 
@@ -70,25 +71,7 @@ run_append : (c : Constants) (s : State) (xs ys : List Event) → run c s (xs ++
 run_append c s [] ys = refl
 run_append c s (x ∷ xs) ys = run_append c (after c s x) xs ys
 
--- the Takes of a lease
-taken_append : (m : ℕ) (xs ys : List Event) → taken m (xs ++ ys) ≡ taken (taken m xs) ys
-taken_append m [] ys = refl
-taken_append t (Load m ∷ xs) ys = taken_append t xs ys
-taken_append t (Take k ∷ xs) ys = taken_append (t + 1) xs ys
-taken_append t (Look k ∷ xs) ys = taken_append t xs ys
-taken_append t (Settle k ∷ xs) ys = taken_append t xs ys
-taken_append t (Send k ∷ xs) ys = taken_append t xs ys
-taken_append t (Mark k ∷ xs) ys = taken_append t xs ys
-taken_append t (Aside k ∷ xs) ys = taken_append t xs ys
-taken_append t (Remove k ∷ xs) ys = taken_append t xs ys
-taken_append t (Tick to ∷ xs) ys = taken_append t xs ys
-taken_append t (Release n ∷ xs) ys = taken_append t xs ys
-taken_append t (Purge id ∷ xs) ys = taken_append t xs ys
-taken_append t (PutBack n ∷ xs) ys = taken_append t xs ys
-taken_append t (DropBack n ∷ xs) ys = taken_append t xs ys
-taken_append t (Stop moment ∷ xs) ys = taken_append 0 xs ys
-taken_append t (Halt store ∷ xs) ys = taken_append t xs ys
-
+-- no Take stands in a lease behind the first
 no_takes : (w m : ℕ) (es : List Event) → All (IsOfLease w) es → taken m es ≡ m
 no_takes w m [] h = refl
 no_takes w t (Load m ∷ es) h = absurd (All-head (IsOfLease w) (Load m) es h)
@@ -141,6 +124,7 @@ has_self k = grind (arith, nat_tests)
 -- what a lease of worker 0 that ended leaves
 pub record Leased (u x : View) (own : List Event) : Type 0 where
   pub leads : (until : ℕ) → Leads (constants u.fixed) until working (state_of u) own working (state_of x)
+  pub of_turns : All IsOfTurn own
   pub standing : Standing x
   pub same : (state_of x).moment ≡ (state_of u).moment
   pub more : takes x.events ≡ takes u.events + 1
@@ -169,10 +153,14 @@ module _ (u x : View) (st : Standing u) (rest : List Event) (of_lease : All (IsO
       let h = holding_of u.fixed u.events st.legal in
       leaves_all (k ∷ []) k ran h.0 h.1 (All-cons (Foreign (k ∷ [])) (Take 0) rest (not_own k ne) (others_of k ne rest of_lease)) (has_self k)
 
+  turns : All IsOfTurn (Take 0 ∷ rest)
+  turns = All-cons IsOfTurn (Take 0) rest tt (turns_of 0 rest of_lease)
+
   pub leased : Leased u x (Take 0 ∷ rest)
   leased = record {
+    of_turns = turns;
     leads = λ until more p.
-        works (constants u.fixed) until (state_of u) (Take 0 ∷ rest) more (All-cons IsOfTurn (Take 0) rest tt (turns_of 0 rest of_lease))
+        works (constants u.fixed) until (state_of u) (Take 0 ∷ rest) more turns
         (subst (λ (s : State). Pace (constants u.fixed) until working s more) (reached ∙ run_append (constants u.fixed) (opened u.fixed.opening) u.events (Take 0 ∷ rest)) p);
     standing = record {
       owns = owns_all_same u x (made_kept u x (Take 0 ∷ rest) made).0 fixed st.owns;
@@ -190,6 +178,7 @@ pub record Working (moment : ℕ) (v u : View) : Type 0 where
   pub own : List Event
   pub made : Made v own u
   pub leads : (until : ℕ) → Leads (constants v.fixed) until working (state_of v) own working (state_of u)
+  pub of_turns : All IsOfTurn own
   pub standing : Standing u
   pub same : (state_of u).moment ≡ (state_of v).moment
   pub now : (state_of u).moment ≡ moment
@@ -200,6 +189,7 @@ working_start moment v st now = record {
   own = [];
   made = moved_none v st.legal;
   leads = λ until rest p. p;
+  of_turns = All-nil IsOfTurn;
   standing = st;
   same = refl;
   now = now;
@@ -220,6 +210,7 @@ working_more moment v u x r t =
       made = made_append v u x r.own own r.made t.2;
       leads = λ until rest p. subst (λ (es : List Event). Pace (constants v.fixed) until working (state_of v) es) (sym (append_assoc r.own own rest))
           (r.leads until (own ++ rest) (subst (λ (f : Fixed). Leads (constants f) until working (state_of u) own working (state_of x)) fixed (k.leads until) rest p));
+      of_turns = All-append IsOfTurn r.own own r.of_turns k.of_turns;
       standing = k.standing;
       same = k.same ∙ r.same;
       now = k.same ∙ r.now;
@@ -229,7 +220,7 @@ working_more moment v u x r t =
 
 -- ---- no more Takes than there may be
 
-within_le : (turns n : ℕ) (es : List Event) → n ≤ turns → TakesFrom turns n es → taken n es ≤ turns
+pub within_le : (turns n : ℕ) (es : List Event) → n ≤ turns → TakesFrom turns n es → taken n es ≤ turns
 within_le turns n [] le h = le
 within_le turns n (Load m ∷ es) le h = within_le turns n es le h
 within_le turns n (Take k ∷ es) le h = within_le turns (n + 1) es (let lt = h.0 in omega (arith, lt)) h.1
@@ -270,6 +261,7 @@ working_nothing moment v u x r t =
     record {
       own = r.own;
       made = subst (λ (es : List Event). Made v es x) (append-nil r.own) (made_append v u x r.own [] r.made m);
+      of_turns = r.of_turns;
       end = (
         (λ until rest p. r.leads until rest (subst (λ (s : State). Pace (constants v.fixed) until working s rest) is p)),
         standing,
@@ -293,6 +285,7 @@ working_limit moment v u x r t =
     record {
       own = r.own;
       made = subst (λ (es : List Event). Made v es x) (append-nil r.own) (made_append v u x r.own [] r.made m);
+      of_turns = r.of_turns;
       end = (
         (λ until. subst (λ (es : List Event). Pace (constants v.fixed) until working (state_of v) es) (append-nil r.own) (r.leads until [] ended)),
         standing_on st m (subst AllIdle (sym is) st.idle),
@@ -306,16 +299,17 @@ working_fault moment f v u x r t = ⊎_elim
     (λ (m : Made u (stop_of f) x). record {
       own = r.own ++ stop_of f;
       made = made_append v u x r.own (stop_of f) r.made m;
+      of_turns = All-append IsOfTurn r.own (stop_of f) r.of_turns (stop_turns f);
       end = ((λ until. r.leads until (stop_of f) (worked (constants v.fixed) until (state_of u) (stop_of f) (stop_turns f))), t.1);
     })
-    (λ (y : (own : List Event) × All (IsOfLease 0) own × Made u (Take 0 ∷ own ++ stop_of f) x). record {
-      own = r.own ++ (Take 0 ∷ (y.0 ++ stop_of f));
-      made = made_append v u x r.own (Take 0 ∷ (y.0 ++ stop_of f)) r.made y.2;
-      end = (
-        (λ until. r.leads until (Take 0 ∷ (y.0 ++ stop_of f)) (worked (constants v.fixed) until (state_of u) (Take 0 ∷ (y.0 ++ stop_of f))
-            (All-cons IsOfTurn (Take 0) (y.0 ++ stop_of f) tt (All-append IsOfTurn y.0 (stop_of f) (turns_of 0 y.0 y.1) (stop_turns f))))),
-        t.1,
-      );
+    (λ (y : (own : List Event) × All (IsOfLease 0) own × Made u (Take 0 ∷ own ++ stop_of f) x).
+    let own : List Event = Take 0 ∷ (y.0 ++ stop_of f) in
+    let turns : All IsOfTurn own = All-cons IsOfTurn (Take 0) (y.0 ++ stop_of f) tt (All-append IsOfTurn y.0 (stop_of f) (turns_of 0 y.0 y.1) (stop_turns f)) in
+    record {
+      own = r.own ++ own;
+      made = made_append v u x r.own own r.made y.2;
+      of_turns = All-append IsOfTurn r.own own r.of_turns turns;
+      end = ((λ until. r.leads until own (worked (constants v.fixed) until (state_of u) own turns)), t.1);
     })
     t.0
 

@@ -1,5 +1,5 @@
 -- What releases, ticks, leases one after another and a drain do, at a desk whose caller has every worker.
-use Rattle.std.specs.Prelude.{◌≡◌, ℕ, zero, suc, ◌+◌, ◌<◌, ◌≤◌, List, [], ◌++◌, Bool, false, if◌then◌else◌, Option, Some, None, Result, Ok, Err, true}
+use Rattle.std.specs.Prelude.{◌≡◌, ℕ, zero, suc, ◌+◌, ◌<◌, ◌≤◌, List, [], ◌∷◌, ◌++◌, All, Bool, false, if◌then◌else◌, Option, Some, None, Result, Ok, Err, true}
 use Rattle.std.specs.Option.{is_some}
 use Rattle.std.specs.FinMap as map
 use Rattle.nb_base.specs.Orders.{ByNumber}
@@ -8,11 +8,12 @@ use Rattle.nb_base.specs.declared.tables.Queued.{Queued}
 use Rattle.nb_core.specs.Calls.{View, OwnsAll, state_of}
 use Rattle.nb_core.specs.Drained.{Drained, IsNextDue}
 use Rattle.nb_core.specs.Legal.{halted}
-use Rattle.nb_core.specs.Paced.{Pace, Mode, releasing, working, AllReleased, IsOwnEmpty}
+use Rattle.nb_core.specs.Paced.{Pace, Mode, releasing, working, AllReleased, IsOfTurn, IsOwnEmpty}
 use Rattle.nb_core.specs.Past.{IsLegal, constants, takes}
 use Rattle.nb_core.specs.State.{Constants, AllIdle, entry}
 use Rattle.nb_core.specs.declared.answers.DeskFault.{DeskFault}
 use Rattle.nb_core.specs.declared.event.Event.{Event}
+use Rattle.nb_core.specs.declared.event.Event.TheVariants.{Take, Tick, Release, Stop}
 use Rattle.nb_core.specs.declared.state.State.{State}
 use Rattle.nb_pump.specs.Leases.{IsCause}
 use Rattle.nb_pump.specs.Made.{Made, Moved}
@@ -55,6 +56,22 @@ pub record Rests (v w : View) : Type 0 where
   pub on : halted w.events ≡ false
   pub takes_are : takes w.events ≡ takes v.events
 
+-- each Tick and each Release comes where a Take is left; n Takes came before
+abbrev pub KeepsLimit : ℕ → ℕ → List Event → Type 0
+KeepsLimit turns n [] = Unit {0}
+KeepsLimit turns n (Take w ∷ es) = KeepsLimit turns (n + 1) es
+KeepsLimit turns n (Tick to ∷ es) = (n < turns) × KeepsLimit turns n es
+KeepsLimit turns n (Release k ∷ es) = (n < turns) × KeepsLimit turns n es
+KeepsLimit turns n (Stop moment ∷ es) = KeepsLimit turns 0 es
+KeepsLimit turns n (e ∷ es) = KeepsLimit turns n es
+
+abbrev pub HasTake : View → Type 0
+HasTake v = takes v.events < v.fixed.turns
+
+-- where a Take is left at first, no Tick and no Release comes behind the one that is the last
+abbrev pub StopsAtLimit : View → List Event → Type 0
+StopsAtLimit v own = HasTake v → KeepsLimit v.fixed.turns (takes v.events) own
+
 -- ---- what is due first
 
 abbrev pub DueIs : ℕ → Result (Option Waiting) DeskFault → View → View → Type 0
@@ -74,6 +91,7 @@ ReleasesEnd (Err f) own v w = ((until : ℕ) → Pace (constants v.fixed) until 
 pub record ReleasesAre (r : Result (Unit {0}) DeskFault) (v w : View) : Type 0 where
   pub own : List Event
   pub made : Made v own w
+  pub limit : StopsAtLimit v own
   pub end : ReleasesEnd r own v w
 
 -- ---- ticks, as long as nothing stands in the own queue
@@ -90,6 +108,7 @@ WindEnd until (Err f) own v w = Pace (constants v.fixed) until working (state_of
 pub record WindIs (until : ℕ) (r : Result (Option ℕ) DeskFault) (v w : View) : Type 0 where
   pub own : List Event
   pub made : Made v own w
+  pub limit : StopsAtLimit v own
   pub end : WindEnd until r own v w
 
 -- ---- leases of worker 0, one after another
@@ -97,7 +116,7 @@ pub record WindIs (until : ℕ) (r : Result (Option ℕ) DeskFault) (v w : View)
 abbrev pub TurnsEnd : Result Bool DeskFault → List Event → View → View → Type 0
 TurnsEnd (Ok true) own v w =
     ((until : ℕ) → Leads (constants v.fixed) until working (state_of v) own working (state_of w)) × Standing w × (halted w.events ≡ false) × ((state_of w).moment ≡ (state_of v).moment)
-    × (takes w.events < w.fixed.turns) × IsOwnEmpty (constants w.fixed) (state_of w) × ((IsOwnEmpty (constants v.fixed) (state_of v) → ⊥) → takes v.events < takes w.events)
+    × HasTake w × IsOwnEmpty (constants w.fixed) (state_of w) × ((IsOwnEmpty (constants v.fixed) (state_of v) → ⊥) → takes v.events < takes w.events)
 TurnsEnd (Ok false) own v w =
     ((until : ℕ) → Pace (constants v.fixed) until working (state_of v) own) × Standing w × (halted w.events ≡ false) × (w.fixed.turns ≤ takes w.events)
 TurnsEnd (Err f) own v w = ((until : ℕ) → Pace (constants v.fixed) until working (state_of v) own) × IsCause f w
@@ -106,6 +125,7 @@ TurnsEnd (Err f) own v w = ((until : ℕ) → Pace (constants v.fixed) until wor
 pub record TurnsAre (r : Result Bool DeskFault) (v w : View) : Type 0 where
   pub own : List Event
   pub made : Made v own w
+  pub of_turns : All IsOfTurn own
   pub end : TurnsEnd r own v w
 
 -- ---- the drain
@@ -120,4 +140,5 @@ pub record DrainIs (until : ℕ) (mode : Mode) (r : Result Bool DeskFault) (v w 
   pub own : List Event
   pub made : Made v own w
   pub paced : Pace (constants v.fixed) until mode (state_of v) own
+  pub limit : StopsAtLimit v own
   pub end : DrainEnd until r w

@@ -51,10 +51,14 @@ stop_of Spent = []
 stop_of Halted = []
 stop_of NoMemory = []
 
+-- the event is the last
+abbrev pub EndsIn : List Event → Event → Type 0
+EndsIn es e = (before : List Event) × (es ≡ before ++ e ∷ [])
+
 -- why a fault was met, in what is seen after it
 abbrev pub IsCause : DeskFault → View → Type 0
-IsCause StoreFailed v = Unit {0}
-IsCause PostFailed v = Unit {0}
+IsCause StoreFailed v = EndsIn v.events (Halt Base)
+IsCause PostFailed v = EndsIn v.events (Halt Post)
 IsCause Spent v = (halted v.events ≡ false) × ((x : Call) × IsSpent (constants v.fixed) (state_of v) x)
 IsCause Halted v = halted v.events ≡ true
 IsCause NoMemory v = halted v.events ≡ false

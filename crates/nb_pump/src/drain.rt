@@ -24,7 +24,7 @@ fn rounds<M: Handling, D: Desk>(
     requires meaning { (D.view desk.old).fixed.meaning ≡ M.meaning handling.now }
     requires empty { IsOwnEmpty (constants (D.view desk.old).fixed) (state_of (D.view desk.old)) }
     ensures drain { DrainIs until working result (D.view desk.old) (D.view desk.new) }
-    ensures stands { D.stands desk.old → D.stands desk.new }
+    ensures stands { (start : D.Start) → D.stands start desk.old → D.stands start desk.new }
     ensures caused { D.caused desk.old → D.caused desk.new }
 {
     let mut now = moment;
@@ -55,7 +55,7 @@ pub fn drain_alone<M: Handling, D: Desk>(
     requires moment { (state_of (D.view desk.old)).moment ≡ moment }
     requires meaning { (D.view desk.old).fixed.meaning ≡ M.meaning handling.now }
     ensures drain { DrainIs until releasing result (D.view desk.old) (D.view desk.new) }
-    ensures stands { D.stands desk.old → D.stands desk.new }
+    ensures stands { (start : D.Start) → D.stands start desk.old → D.stands start desk.new }
     ensures caused { D.caused desk.old → D.caused desk.new }
 {
     match release_due(desk, moment) {

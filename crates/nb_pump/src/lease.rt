@@ -23,7 +23,7 @@ fn judge<M: Handling, D: Desk, G: Gate>(
 ) -> Result<(), DeskFault>
     requires judged { MayJudge (M.meaning handling.now) w envelope.now reads moment (D.view desk.old) }
     ensures follows { Follows w result (D.view desk.old) (D.view desk.new) }
-    ensures stands { D.stands desk.old → D.stands desk.new }
+    ensures stands { (start : D.Start) → D.stands start desk.old → D.stands start desk.new }
     ensures caused { D.caused desk.old → D.caused desk.new }
 {
     gate.pass(w, Point::AfterLook);
@@ -50,7 +50,7 @@ fn handle<M: Handling, D: Desk, G: Gate>(
     requires moment { (state_of (D.view desk.old)).moment ≡ moment }
     requires meaning { (D.view desk.old).fixed.meaning ≡ M.meaning handling.now }
     ensures follows { Follows w result (D.view desk.old) (D.view desk.new) }
-    ensures stands { D.stands desk.old → D.stands desk.new }
+    ensures stands { (start : D.Start) → D.stands start desk.old → D.stands start desk.new }
     ensures caused { D.caused desk.old → D.caused desk.new }
 {
     handling.is_meaning();
@@ -75,7 +75,7 @@ pub fn turn<M: Handling, D: Desk, G: Gate>(
     requires moment { (state_of (D.view desk.old)).moment ≡ moment }
     requires meaning { (D.view desk.old).fixed.meaning ≡ M.meaning handling.now }
     ensures turn { TurnIs w result (D.view desk.old) (D.view desk.new) }
-    ensures stands { D.stands desk.old → D.stands desk.new }
+    ensures stands { (start : D.Start) → D.stands start desk.old → D.stands start desk.new }
     ensures caused { D.caused desk.old → D.caused desk.new }
 {
     match desk.take(w)? {

@@ -12,7 +12,7 @@ use nb_core::{Desk, DeskFault};
 pub fn due_by<D: Desk>(desk: &mut D, moment: Moment) -> Result<Option<Waiting>, DeskFault>
     requires { Standing (D.view desk.old) }
     ensures due { DueIs moment result (D.view desk.old) (D.view desk.new) }
-    ensures stands { D.stands desk.old → D.stands desk.new }
+    ensures stands { (start : D.Start) → D.stands start desk.old → D.stands start desk.new }
     ensures caused { D.caused desk.old → D.caused desk.new }
 {
     match desk.next_due() {
@@ -33,7 +33,7 @@ pub fn release_due<D: Desk>(desk: &mut D, moment: Moment) -> Result<(), DeskFaul
     requires standing { Standing (D.view desk.old) }
     requires moment { (state_of (D.view desk.old)).moment ≡ moment }
     ensures releases { ReleasesAre result (D.view desk.old) (D.view desk.new) }
-    ensures stands { D.stands desk.old → D.stands desk.new }
+    ensures stands { (start : D.Start) → D.stands start desk.old → D.stands start desk.new }
     ensures caused { D.caused desk.old → D.caused desk.new }
 {
     loop {
@@ -67,7 +67,7 @@ pub fn wind<D: Desk>(
     requires moment { (state_of (D.view desk.old)).moment ≡ moment }
     requires empty { IsOwnEmpty (constants (D.view desk.old).fixed) (state_of (D.view desk.old)) }
     ensures wind { WindIs until result (D.view desk.old) (D.view desk.new) }
-    ensures stands { D.stands desk.old → D.stands desk.new }
+    ensures stands { (start : D.Start) → D.stands start desk.old → D.stands start desk.new }
     ensures caused { D.caused desk.old → D.caused desk.new }
 {
     let mut now = moment;

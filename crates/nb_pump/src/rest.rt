@@ -11,7 +11,7 @@ use nb_core::{Desk, DeskFault};
 pub fn finish<D: Desk>(desk: &mut D, w: u32) -> Result<(), DeskFault>
     requires { Ready (call.Remove w) (D.view desk.old) }
     ensures follows { Follows w result (D.view desk.old) (D.view desk.new) }
-    ensures stands { D.stands desk.old → D.stands desk.new }
+    ensures stands { (start : D.Start) → D.stands start desk.old → D.stands start desk.new }
     ensures caused { D.caused desk.old → D.caused desk.new }
 {
     desk.remove(w)
@@ -21,7 +21,7 @@ pub fn finish<D: Desk>(desk: &mut D, w: u32) -> Result<(), DeskFault>
 pub fn mark<D: Desk>(desk: &mut D, w: u32) -> Result<(), DeskFault>
     requires { Ready (call.Mark w) (D.view desk.old) }
     ensures follows { Follows w result (D.view desk.old) (D.view desk.new) }
-    ensures stands { D.stands desk.old → D.stands desk.new }
+    ensures stands { (start : D.Start) → D.stands start desk.old → D.stands start desk.new }
     ensures caused { D.caused desk.old → D.caused desk.new }
 {
     desk.mark(w)?;
@@ -32,7 +32,7 @@ pub fn mark<D: Desk>(desk: &mut D, w: u32) -> Result<(), DeskFault>
 pub fn dispatch<D: Desk>(desk: &mut D, w: u32) -> Result<(), DeskFault>
     requires { Ready (call.Unsent w) (D.view desk.old) }
     ensures follows { Follows w result (D.view desk.old) (D.view desk.new) }
-    ensures stands { D.stands desk.old → D.stands desk.new }
+    ensures stands { (start : D.Start) → D.stands start desk.old → D.stands start desk.new }
     ensures caused { D.caused desk.old → D.caused desk.new }
 {
     let left = desk.unsent(w)?;
@@ -46,7 +46,7 @@ pub fn dispatch<D: Desk>(desk: &mut D, w: u32) -> Result<(), DeskFault>
 pub fn put_aside<D: Desk>(desk: &mut D, w: u32) -> Result<(), DeskFault>
     requires { Ready (call.Aside w) (D.view desk.old) }
     ensures follows { Follows w result (D.view desk.old) (D.view desk.new) }
-    ensures stands { D.stands desk.old → D.stands desk.new }
+    ensures stands { (start : D.Start) → D.stands start desk.old → D.stands start desk.new }
     ensures caused { D.caused desk.old → D.caused desk.new }
 {
     desk.aside(w)?;
@@ -57,7 +57,7 @@ pub fn put_aside<D: Desk>(desk: &mut D, w: u32) -> Result<(), DeskFault>
 pub fn follow<D: Desk>(desk: &mut D, w: u32, next: Next) -> Result<(), DeskFault>
     requires { CanFollow next w (D.view desk.old) }
     ensures follows { Follows w result (D.view desk.old) (D.view desk.new) }
-    ensures stands { D.stands desk.old → D.stands desk.new }
+    ensures stands { (start : D.Start) → D.stands start desk.old → D.stands start desk.new }
     ensures caused { D.caused desk.old → D.caused desk.new }
 {
     match next {
@@ -72,7 +72,7 @@ pub fn follow<D: Desk>(desk: &mut D, w: u32, next: Next) -> Result<(), DeskFault
 pub fn settle<D: Desk>(desk: &mut D, w: u32, outcome: Outcome) -> Result<(), DeskFault>
     requires { Ready (call.Settle w outcome) (D.view desk.old) }
     ensures follows { Follows w result (D.view desk.old) (D.view desk.new) }
-    ensures stands { D.stands desk.old → D.stands desk.new }
+    ensures stands { (start : D.Start) → D.stands start desk.old → D.stands start desk.new }
     ensures caused { D.caused desk.old → D.caused desk.new }
 {
     let settled = desk.settle(w, outcome)?;

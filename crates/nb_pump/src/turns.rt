@@ -20,7 +20,7 @@ pub fn take_turns<M: Handling, D: Desk>(
     requires moment { (state_of (D.view desk.old)).moment ≡ moment }
     requires meaning { (D.view desk.old).fixed.meaning ≡ M.meaning handling.now }
     ensures turns { TurnsAre result (D.view desk.old) (D.view desk.new) }
-    ensures stands { D.stands desk.old → D.stands desk.new }
+    ensures stands { (start : D.Start) → D.stands start desk.old → D.stands start desk.new }
     ensures caused { D.caused desk.old → D.caused desk.new }
 {
     loop {

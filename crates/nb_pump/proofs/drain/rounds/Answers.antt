@@ -4,8 +4,11 @@ use Rattle.nb_core.specs.Paced.{working}
 use Rattle.nb_core.specs.Past.{Fixed}
 use Rattle.nb_core.specs.declared.answers.DeskFault.{DeskFault}
 use Rattle.nb_pump.specs.Drains.{WindIs, TurnsAre}
-use Rattle.nb_pump.proofs.Draining.{wound, draining_done, draining_unwound, draining_more, draining_smaller, draining_limit, draining_broken, asked_last}
+use Rattle.nb_pump.proofs.Draining.{draining_start, wound, draining_done, draining_unwound, draining_more, draining_smaller, draining_limit, draining_broken, asked_last}
 use Rattle.nb_pump.proofs.drain.rounds.Goals as goal
+
+pub loop-later-init : goal.loop-later-init
+loop-later-init g c = (draining_start c.args.until c.args.moment _ c.requires.standing c.requires.moment c.requires.empty, λ start h. h, λ h. h)
 
 pub returns-in-Ok-None-clause-drain : goal.returns-in-Ok-None-clause-drain
 returns-in-Ok-None-clause-drain g c =
@@ -35,7 +38,7 @@ loop-later-preserved g c =
     let x = wound c.args.until c.loop-later.now c.in-Ok-Some.later _ _ _ c.loop-later.invariant.0 (subst P (c.in-Ok-Some.is ∙ ap Ok c.in-Ok-Some.field-0-is) c.wind.ensures.wind) in
     let Q : Result Bool DeskFault → Type 0 = λ r. TurnsAre r (g.D.Desk.view c.wind.new.desk) (g.D.Desk.view c.take_turns.new.desk) in (
       draining_more c.args.until c.in-Ok-Some.later _ _ _ x (subst Q (c.in-Ok-true.is ∙ ap Ok c.in-Ok-true.field-0-test) c.take_turns.ensures.turns),
-      λ h. c.take_turns.ensures.stands (c.wind.ensures.stands (c.loop-later.invariant.1 h)),
+      λ start h. c.take_turns.ensures.stands start (c.wind.ensures.stands start (c.loop-later.invariant.1 start h)),
       λ h. c.take_turns.ensures.caused (c.wind.ensures.caused (c.loop-later.invariant.2 h)),
     )
 

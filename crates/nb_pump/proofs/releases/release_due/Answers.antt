@@ -7,7 +7,7 @@ use Rattle.nb_pump.proofs.Releasing.{releasing_start, releasing_asked, may_relea
 use Rattle.nb_pump.proofs.releases.release_due.Goals as goal
 
 pub loop-next-init : goal.loop-next-init
-loop-next-init g c = (releasing_start c.args.moment _ c.requires.standing c.requires.moment, λ h. h, λ h. h)
+loop-next-init g c = (releasing_start c.args.moment _ c.requires.standing c.requires.moment, λ start h. h, λ h. h)
 
 pub release-requires : goal.release-requires
 release-requires g c =
@@ -20,7 +20,7 @@ loop-next-preserved g c =
     let P : Result (Option Waiting) DeskFault → Type 0 = λ r. DueIs c.args.moment r (g.D.Desk.view c.loop-next.desk) (g.D.Desk.view c.due_by.new.desk) in
     let d = subst P (c.in-Ok-Some.is ∙ ap Ok c.in-Ok-Some.field-0-is) c.due_by.ensures.due in (
       releasing_more c.args.moment c.in-Ok-Some.next _ _ _ (releasing_asked c.args.moment _ _ _ c.loop-next.invariant.0 d.0 d.1) d.2 d.3 c.in-Ok.ensures.call,
-      λ h. c.release.ensures.stands (c.due_by.ensures.stands (c.loop-next.invariant.1 h)),
+      λ start h. c.release.ensures.stands start (c.due_by.ensures.stands start (c.loop-next.invariant.1 start h)),
       λ h. c.release.ensures.caused (c.due_by.ensures.caused (c.loop-next.invariant.2 h)),
     )
 

@@ -11,7 +11,7 @@ use Rattle.nb_pump.proofs.Winding.{winding_start, winding_asked, winding_unasked
 use Rattle.nb_pump.proofs.releases.wind.Goals as goal
 
 pub loop-next-init : goal.loop-next-init
-loop-next-init g c = (winding_start c.args.until c.args.moment _ c.requires.standing c.requires.moment c.requires.empty, λ h. h, λ h. h)
+loop-next-init g c = (winding_start c.args.until c.args.moment _ c.requires.standing c.requires.moment c.requires.empty, λ start h. h, λ h. h)
 
 pub returns-in-Ok-None-clause-wind : goal.returns-in-Ok-None-clause-wind
 returns-in-Ok-None-clause-wind g c =
@@ -64,7 +64,7 @@ loop-next-preserved g c =
     let s = (winding_ticked c.args.until c.loop-next.now c.later-now.result c.in-Ok-Some.next _ _ _ (winding_asked c.args.until c.loop-next.now _ _ _ c.loop-next.invariant.0 d.0 d.1) d.2 d.3 c.later-now.ensures c.in-Ok.ensures.call) in
     let P : Result Bool DeskFault → Type 0 = λ r. Called (call.IsDrained c.later-now.result) (answer.IsDrained r) (g.D.Desk.view c.release_due.new.desk) (g.D.Desk.view c.drained.new.self) in (
       winding_on c.args.until c.later-now.result _ _ _ (winding_released c.args.until c.later-now.result _ _ _ s c.in-Ok-release_due.ensures.releases) (subst P (c.in-Ok-true.is ∙ ap Ok c.in-Ok-true.field-0-test) c.drained.ensures.call),
-      λ h. c.drained.ensures.stands (c.release_due.ensures.stands (c.tick.ensures.stands (c.due_by.ensures.stands (c.loop-next.invariant.1 h)))),
+      λ start h. c.drained.ensures.stands start (c.release_due.ensures.stands start (c.tick.ensures.stands start (c.due_by.ensures.stands start (c.loop-next.invariant.1 start h)))),
       λ h. c.drained.ensures.caused (c.release_due.ensures.caused (c.tick.ensures.caused (c.due_by.ensures.caused (c.loop-next.invariant.2 h)))),
     )
 

@@ -24,7 +24,7 @@ loop-preserved g c =
     let sum = i.1 in
     let more = c.loop-test.true in (
       (i.0 - 1, omega arith, dispatch_next c.args.w i.0 (i.0 - 1) _ _ _ (omega arith) i.2 c.in_ok-send.ensures.call),
-      λ h. c.send.ensures.stands (c.loop.invariant.1 h),
+      λ start h. c.send.ensures.stands start (c.loop.invariant.1 start h),
       λ h. c.send.ensures.caused (c.loop.invariant.2 h),
     )
 

@@ -7,7 +7,7 @@ use Rattle.nb_pump.proofs.Working.{working_start, working_more, working_smaller,
 use Rattle.nb_pump.proofs.turns.take_turns.Goals as goal
 
 pub loop-fault-init : goal.loop-fault-init
-loop-fault-init g c = (working_start c.args.moment _ c.requires.standing c.requires.moment, λ h. h, λ h. h, refl)
+loop-fault-init g c = (working_start c.args.moment _ c.requires.standing c.requires.moment, λ start h. h, λ h. h, refl)
 
 pub turn-requires-clause-idle : goal.turn-requires-clause-idle
 turn-requires-clause-idle g c = may_take c.args.moment _ _ c.loop-fault.invariant.0
@@ -23,7 +23,7 @@ loop-fault-preserved g c =
     let P : Result Turn DeskFault → Type 0 = λ r. TurnIs 0 r (g.D.Desk.view c.loop-fault.desk) (g.D.Desk.view c.turn.new.desk) in
     let t = subst P (c.in-Ok-Ended.is ∙ ap Ok c.in-Ok-Ended.field-0-is) c.turn.ensures.turn in (
       working_more c.args.moment _ _ _ c.loop-fault.invariant.0 t,
-      λ h. c.turn.ensures.stands (c.loop-fault.invariant.1 h),
+      λ start h. c.turn.ensures.stands start (c.loop-fault.invariant.1 start h),
       λ h. c.turn.ensures.caused (c.loop-fault.invariant.2 h),
       same_meaning (g.D.Desk.view c.loop-fault.desk) (g.D.Desk.view c.turn.new.desk) t ∙ c.loop-fault.invariant.3,
     )

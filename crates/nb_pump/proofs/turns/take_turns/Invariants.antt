@@ -6,7 +6,7 @@ use Rattle.nb_pump.proofs.turns.take_turns.Given as goal
 abbrev pub invariant-loop-fault : goal.invariant-loop-fault
 invariant-loop-fault g l =
     Working l.moment (g.D.Desk.view l.fn.desk) (g.D.Desk.view l.desk)
-    × (g.D.Desk.stands l.fn.desk → g.D.Desk.stands l.desk)
+    × ((start : g.D.Desk.Start) → g.D.Desk.stands start l.fn.desk → g.D.Desk.stands start l.desk)
     × (g.D.Desk.caused l.fn.desk → g.D.Desk.caused l.desk)
     × ((g.D.Desk.view l.desk).fixed.meaning ≡ (g.D.Desk.view l.fn.desk).fixed.meaning)
 
