@@ -1,0 +1,13 @@
+pub mod Indexed
+pub mod Ledgers
+pub mod Stops
+pub mod Kept
+pub mod Stores
+pub mod Settling
+pub mod Failures
+pub mod Looking
+pub mod Returnable
+pub mod Stages
+pub mod Starting
+pub mod Served
+pub mod Desks
