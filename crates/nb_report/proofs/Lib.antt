@@ -1,0 +1,3 @@
+pub mod InOrderLaws
+pub mod ListedLaws
+pub mod PieceLaws

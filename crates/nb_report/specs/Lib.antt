@@ -1,0 +1,4 @@
+pub mod InOrder
+pub mod Lines
+pub mod Listed
+pub mod Reports
