@@ -1,0 +1,9 @@
+pub mod CompileLemmas
+pub mod QueryLemmas
+pub mod PlaceLemmas
+pub mod ChangeLemmas
+pub mod ReadLemmas
+pub mod CreateLemmas
+pub mod ScanLemmas
+pub mod KeyLemmas
+pub mod FileLemmas

@@ -1,0 +1,6 @@
+pub mod Files
+pub mod Held
+pub mod Laws
+pub mod Meaning
+pub mod Shown
+pub mod Statements
