@@ -1,0 +1,14 @@
+pub mod Reading
+pub mod Routing
+pub mod Ending
+pub mod Planning
+pub mod Running
+pub mod Performing
+pub mod Showing
+pub mod Choosing
+pub mod Gathering
+pub mod Leaving
+pub mod Finishing
+pub mod Starting
+pub mod Completing
+pub mod Lifting

@@ -1,0 +1,16 @@
+pub mod Statuses
+pub mod Sources
+pub mod Scripts
+pub mod Configured
+pub mod Lines
+pub mod Asked
+pub mod Works
+pub mod Follows
+pub mod Prints
+pub mod Printing
+pub mod Faults
+pub mod Rows
+pub mod Built
+pub mod Left
+pub mod Finishing
+pub mod Headline

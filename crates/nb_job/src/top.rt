@@ -1,0 +1,88 @@
+//! The top call.
+ghost use Rattle.std.specs.Prelude.{◌≡◌, ◌⊎◌, None, IfOk, IfSome};
+ghost use Rattle.nb_job.specs.Asked.{IsRefused};
+ghost use Rattle.nb_job.specs.Built.{served_words};
+ghost use Rattle.nb_job.specs.Headline.{given, Opens, Acts, ComesTo, SendsAll, Leaves, PrintsAll, Row, IsDamage, IsComplete};
+ghost use Rattle.nb_job.specs.Rows.{Risen, counts};
+ghost use Rattle.nb_job.specs.Sources.{flow};
+ghost use Rattle.nb_hub.specs.Desks.{Started};
+ghost use Rattle.nb_hub.specs.Starting.{IsRead, Told, TellsOne};
+
+use crate::ended::{Ended, perform};
+use crate::job::prepare;
+use crate::status::Status;
+use nb_base::{Clock, NoMemory, Sink, Source, Text};
+use nb_cells::Cells;
+use nb_core::{law_drained, law_outcome};
+use nb_words::{Command, Words, read_words};
+use std::alloc::Global;
+
+/// What the words say, where it is built.
+fn served_words(alloc: Global, words: &[Text]) -> Result<Option<Words>, NoMemory>
+    ensures { IfOk result (λ w. w ≡ served_words words.now) }
+{
+    let Some(said) = read_words(alloc, words)? else {
+        return Ok(None);
+    };
+    match said.command {
+        Command::Run => Ok(Some(said)),
+        Command::Show => Ok(Some(said)),
+        Command::Retry => Ok(Some(said)),
+        Command::Purge => Ok(Some(said)),
+        Command::Sample => Ok(None),
+    }
+}
+
+/// Nothing is begun.
+fn refused<P, D>(status: Status, post: P, base: D) -> Ended<P, D>
+    ensures { result ≡ record { status = status; post = post; base = base; history = None; printed = 0 } }
+{
+    Ended {
+        status,
+        post,
+        base,
+        history: None,
+        printed: 0,
+    }
+}
+
+/// All that the program does with one worker. All sources are read before any is looked at, and all is checked before a
+/// store is touched.
+pub fn run_alone<S: Source, O: Sink, P: Cells, D: Cells, C: Clock>(
+    alloc: Global,
+    words: &[Text],
+    script: &mut S,
+    settings: &mut S,
+    input: &mut S,
+    out: &mut O,
+    post: P,
+    base: D,
+    clock: &mut C,
+) -> Ended<P, D>
+    ensures opens { IfSome result.history (Opens (given words.now (C.next clock.old) (flow (S.left script.old) (S.left script.new) (S.count script.old) (S.count script.new)) (flow (S.left settings.old) (S.left settings.new) (S.count settings.old) (S.count settings.new)) (flow (S.left input.old) (S.left input.new) (S.count input.old) (S.count input.new)))) }
+    ensures acts { IfSome result.history (Acts (given words.now (C.next clock.old) (flow (S.left script.old) (S.left script.new) (S.count script.old) (S.count script.new)) (flow (S.left settings.old) (S.left settings.new) (S.count settings.old) (S.count settings.new)) (flow (S.left input.old) (S.left input.new) (S.count input.old) (S.count input.new))) result.status) }
+    ensures comes { IfSome result.history (ComesTo (given words.now (C.next clock.old) (flow (S.left script.old) (S.left script.new) (S.count script.old) (S.count script.new)) (flow (S.left settings.old) (S.left settings.new) (S.count settings.old) (S.count settings.new)) (flow (S.left input.old) (S.left input.new) (S.count input.old) (S.count input.new)))) }
+    ensures sends { IfSome result.history (SendsAll (given words.now (C.next clock.old) (flow (S.left script.old) (S.left script.new) (S.count script.old) (S.count script.new)) (flow (S.left settings.old) (S.left settings.new) (S.count settings.old) (S.count settings.new)) (flow (S.left input.old) (S.left input.new) (S.count input.old) (S.count input.new))) result.status) }
+    ensures leaves { (start : Started) → IfSome result.history (λ h. TellsOne D.now D.images D.firm base start.base → TellsOne P.now P.images P.firm post start.post → Leaves D.honest D.now D.images D.firm P.honest P.now P.images P.firm (given words.now (C.next clock.old) (flow (S.left script.old) (S.left script.new) (S.count script.old) (S.count script.new)) (flow (S.left settings.old) (S.left settings.new) (S.count settings.old) (S.count settings.new)) (flow (S.left input.old) (S.left input.new) (S.count input.old) (S.count input.new))) start result.base result.post h) }
+    ensures base_kept { result.history ≡ None → IsRead D.honest D.now D.images D.firm D.count base result.base }
+    ensures post_kept { result.history ≡ None → IsRead P.honest P.now P.images P.firm P.count post result.post }
+    ensures prints { PrintsAll (given words.now (C.next clock.old) (flow (S.left script.old) (S.left script.new) (S.count script.old) (S.count script.new)) (flow (S.left settings.old) (S.left settings.new) (S.count settings.old) (S.count settings.new)) (flow (S.left input.old) (S.left input.new) (S.count input.old) (S.count input.new))) result.status result.history result.printed (O.held out.old) (O.held out.new) }
+    ensures row { Row (given words.now (C.next clock.old) (flow (S.left script.old) (S.left script.new) (S.count script.old) (S.count script.new)) (flow (S.left settings.old) (S.left settings.new) (S.count settings.old) (S.count settings.new)) (flow (S.left input.old) (S.left input.new) (S.count input.old) (S.count input.new))) result.status result.history }
+    ensures risen { Risen result.status (counts (D.count base) (D.count result.base) (P.count post) (P.count result.post) (O.count out.old) (O.count out.new)) }
+    ensures damage { (start : Started) → result.history ≡ None → Told D.honest D.now D.firm base result.base start.base → Told P.honest P.now P.firm post result.post start.post → IsDamage (given words.now (C.next clock.old) (flow (S.left script.old) (S.left script.new) (S.count script.old) (S.count script.new)) (flow (S.left settings.old) (S.left settings.new) (S.count settings.old) (S.count settings.new)) (flow (S.left input.old) (S.left input.new) (S.count input.old) (S.count input.new))) start.base start.post result.status }
+    ensures complete { (start : Started) → Told D.honest D.now D.firm base result.base start.base → Told P.honest P.now P.firm post result.post start.post → IsComplete (given words.now (C.next clock.old) (flow (S.left script.old) (S.left script.new) (S.count script.old) (S.count script.new)) (flow (S.left settings.old) (S.left settings.new) (S.count settings.old) (S.count settings.new)) (flow (S.left input.old) (S.left input.new) (S.count input.old) (S.count input.new))) result.status result.history (counts (D.count base) (D.count result.base) (P.count post) (P.count result.post) (O.count out.old) (O.count out.new)) start.base start.post }
+{
+    let said = match served_words(alloc, words) {
+        Ok(Some(said)) => said,
+        Ok(None) => return refused(Status::Words, post, base),
+        Err(NoMemory) => return refused(Status::NoMemory, post, base),
+    };
+    match prepare(alloc, said, script, settings, input, clock) {
+        Ok(job) => {
+            law_outcome();
+            law_drained();
+            perform(alloc, job, post, base, out)
+        }
+        Err(status) => refused(status, post, base),
+    }
+}
