@@ -1,9 +1,15 @@
-//! The program: the top call on the words of the command line, standard input and output, and the system's clock.
+//! The program: the top call on the words of the command line, the files of the folder, standard input and output, and the
+//! system's clock.
 #![tactic(auto)]
 
+mod origin;
+
+use either::Right;
 use nb_base::{HostClock, NoMemory, ReadSource, Text, WriteSink};
-use nb_cells::MemCells;
+use nb_cells::CellFault;
 use nb_endpoint::{Ended, Status, run_alone};
+use nb_sql::FileCells;
+use origin::file;
 use std::process::ExitCode;
 use std::{env, io};
 
@@ -29,31 +35,48 @@ fn words(rt: &HostRuntime) -> Result<Vec<Text>, Status> {
     Ok(words)
 }
 
-/// Runs the words over two empty stores in memory.
-fn run(rt: &HostRuntime, words: &[Text]) -> Status {
-    let alloc = rt.alloc();
-    let mut script = ReadSource::new(rt.stdin());
-    let mut settings = ReadSource::new(rt.stdin());
-    let mut input = ReadSource::new(rt.stdin());
+/// The store in the file at a path, or the status `failed`.
+fn store(rt: &HostRuntime, path: &str, failed: Status) -> Result<FileCells, Status> {
+    match FileCells::in_file(rt, path) {
+        Ok(cells) => Ok(cells),
+        Err(CellFault::Failed) => Err(failed),
+        Err(CellFault::NoMemory) => Err(Status::NoMemory),
+    }
+}
+
+/// Does what the words say with the files of the folder.
+fn run(rt: &HostRuntime, words: &[Text]) -> Result<Status, Status> {
+    let post = store(rt, "post.db", Status::PostFault)?;
+    let base = store(rt, "base.db", Status::BaseFault)?;
+    let mut script = ReadSource::new(file(rt, "endpoint.script"));
+    let mut settings = ReadSource::new(file(rt, "endpoint.toml"));
+    let mut input = ReadSource::new(Right(rt.stdin()));
     let mut out = WriteSink::new(io::writer(rt));
     let mut clock = HostClock::new(rt);
     let Ended {
         status,
         post: _,
         base: _,
+        history: _,
         printed: _,
     } = run_alone(
-        alloc,
+        rt.alloc(),
         words,
         &mut script,
         &mut settings,
         &mut input,
         &mut out,
-        MemCells::empty(alloc),
-        MemCells::empty(alloc),
+        post,
+        base,
         &mut clock,
     );
-    status
+    Ok(status)
+}
+
+/// The status of the program, whose words are those of the command line.
+fn status(rt: &HostRuntime) -> Result<Status, Status> {
+    let words = words(rt)?;
+    run(rt, words.as_slice())
 }
 
 /// Says on a line of its own why not all was done.
@@ -65,8 +88,8 @@ fn say(rt: &HostRuntime, status: &Status) -> io::Result<()> {
 }
 
 fn main(rt: HostRuntime) -> ExitCode {
-    let status = match words(&rt) {
-        Ok(words) => run(&rt, words.as_slice()),
+    let status = match status(&rt) {
+        Ok(status) => status,
         Err(status) => status,
     };
     let _ = say(&rt, &status);

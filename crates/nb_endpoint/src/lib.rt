@@ -1,16 +1,27 @@
-//! The top call: what the program does with words, sources, a sink, two stores and a clock.
+//! A job of the program: what is asked for, read and checked before a store is touched, what is done for it at a desk, and
+//! how that ends.
 #![tactic(auto)]
 
-mod credit;
-mod ledger;
+mod chore;
+mod ended;
+mod finish;
+mod job;
+mod lent;
 mod lines;
-mod prepare;
-mod report;
+mod printing;
+mod script;
+mod setting;
+mod sources;
 mod status;
 mod top;
+mod work;
 
-pub use status::{Input, Refusal, Status};
-pub use top::{Ended, run_alone};
-
-#[cfg(test)]
-mod tests;
+pub use chore::{Chore, chore_of};
+pub use ended::{Ended, perform};
+pub use finish::{end, of_start};
+pub use job::{Job, prepare};
+pub use lent::Lent;
+pub use printing::{Worked, print};
+pub use status::{Input, Mistake, Status};
+pub use top::run_alone;
+pub use work::{Task, serve};

@@ -1,102 +1,88 @@
 //! The top call.
-ghost use Rattle.std.specs.Prelude.{◌≡◌, string_bytes, IfOk};
-ghost use Rattle.nb_endpoint.specs.Headline.{text_of, Printed, Prints, Row, Risen, IsComplete};
+ghost use Rattle.std.specs.Prelude.{◌≡◌, ◌⊎◌, None, IfOk, IfSome};
+ghost use Rattle.nb_endpoint.specs.Asked.{IsRefused};
+ghost use Rattle.nb_endpoint.specs.Built.{served_words};
+ghost use Rattle.nb_endpoint.specs.Headline.{given, Opens, Acts, ComesTo, SendsAll, Leaves, PrintsAll, Row, IsDamage, IsComplete};
+ghost use Rattle.nb_endpoint.specs.Rows.{Risen, counts};
+ghost use Rattle.nb_endpoint.specs.Sources.{flow};
+ghost use Rattle.nb_hub.specs.Desks.{Started};
+ghost use Rattle.nb_hub.specs.Starting.{IsRead, Told, TellsOne};
 
-use crate::ledger::handle;
-use crate::prepare::{Job, prepare};
-use crate::report::report;
+use crate::ended::{Ended, perform};
+use crate::job::prepare;
 use crate::status::Status;
-use nb_base::{Clock, NoMemory, Sink, Source, Text, write_all};
+use nb_base::{Clock, NoMemory, Sink, Source, Text};
 use nb_cells::Cells;
+use nb_core::{law_drained, law_outcome};
+use nb_words::{Command, Words, read_words};
 use std::alloc::Global;
 
-/// What the top call hands back.
-#[derive(Drop)]
-pub struct Ended<P, D> {
-    pub status: Status,
-    pub post: P,
-    pub base: D,
-    /// How many bytes were written to the sink.
-    pub printed: u64,
-}
-
-/// The end of the work, and how many bytes were written.
-struct Worked {
-    status: Status,
-    printed: u64,
-}
-
-/// The report of the job.
-fn text_of(alloc: Global, job: &Job) -> Result<String, NoMemory>
-    ensures { IfOk result (λ s. string_bytes s ≡ text_of job.now.moment job.now.credits) }
+/// What the words say, where it is built.
+fn served_words(alloc: Global, words: &[Text]) -> Result<Option<Words>, NoMemory>
+    ensures { IfOk result (λ w. w ≡ served_words words.now) }
 {
-    let ledger = handle(alloc, &job.credits)?;
-    let next = job.credits.len() as u64 + 1;
-    report(alloc, job.moment, &ledger, next)
-}
-
-/// Prints the report of the job.
-fn print<O: Sink>(alloc: Global, job: &Job, out: &mut O) -> Worked
-    ensures { Printed result.status result.printed (text_of job.now.moment job.now.credits) (O.held out.old) (O.held out.new) (O.count out.old) (O.count out.new) }
-{
-    let text = match text_of(alloc, job) {
-        Ok(text) => text,
-        Err(NoMemory) => {
-            return Worked {
-                status: Status::NoMemory,
-                printed: 0,
-            };
-        }
+    let Some(said) = read_words(alloc, words)? else {
+        return Ok(None);
     };
-    match write_all(out, text.as_bytes()) {
-        Ok(()) => Worked {
-            status: Status::Done,
-            printed: text.len() as u64,
-        },
-        Err(stop) => Worked {
-            status: Status::WriteFault,
-            printed: stop.written,
-        },
+    match said.command {
+        Command::Run => Ok(Some(said)),
+        Command::Show => Ok(Some(said)),
+        Command::Retry => Ok(Some(said)),
+        Command::Purge => Ok(Some(said)),
+        Command::Sample => Ok(None),
     }
 }
 
-/// All that the program does. Both stores are handed back with no call, since what stands between runs isn't kept yet;
-/// the sources of the script and the settings aren't read yet, and one worker serves.
+/// Nothing is begun.
+fn refused<P, D>(status: Status, post: P, base: D) -> Ended<P, D>
+    ensures { result ≡ record { status = status; post = post; base = base; history = None; printed = 0 } }
+{
+    Ended {
+        status,
+        post,
+        base,
+        history: None,
+        printed: 0,
+    }
+}
+
+/// All that the program does with one worker. All sources are read before any is looked at, and all is checked before a
+/// store is touched.
 pub fn run_alone<S: Source, O: Sink, P: Cells, D: Cells, C: Clock>(
     alloc: Global,
     words: &[Text],
-    _script: &mut S,
-    _settings: &mut S,
+    script: &mut S,
+    settings: &mut S,
     input: &mut S,
     out: &mut O,
     post: P,
     base: D,
     clock: &mut C,
 ) -> Ended<P, D>
-    ensures prints { Prints result.status result.printed words.now (C.next clock.old) (S.left input.old) (S.left input.new) (O.held out.old) (O.held out.new) }
-    ensures row { Row result.status words.now (S.left input.old) (S.left input.new) }
-    ensures risen { Risen result.status (S.count input.old) (S.count input.new) (O.count out.old) (O.count out.new) }
-    ensures complete { IsComplete result.status words.now (S.left input.old) (S.left input.new) (S.count input.old) (S.count input.new) (O.count out.old) (O.count out.new) }
-    ensures post { result.post ≡ post }
-    ensures base { result.base ≡ base }
-    ensures script { _script.new ≡ _script.old }
-    ensures settings { _settings.new ≡ _settings.old }
+    ensures opens { IfSome result.history (Opens (given words.now (C.next clock.old) (flow (S.left script.old) (S.left script.new) (S.count script.old) (S.count script.new)) (flow (S.left settings.old) (S.left settings.new) (S.count settings.old) (S.count settings.new)) (flow (S.left input.old) (S.left input.new) (S.count input.old) (S.count input.new)))) }
+    ensures acts { IfSome result.history (Acts (given words.now (C.next clock.old) (flow (S.left script.old) (S.left script.new) (S.count script.old) (S.count script.new)) (flow (S.left settings.old) (S.left settings.new) (S.count settings.old) (S.count settings.new)) (flow (S.left input.old) (S.left input.new) (S.count input.old) (S.count input.new))) result.status) }
+    ensures comes { IfSome result.history (ComesTo (given words.now (C.next clock.old) (flow (S.left script.old) (S.left script.new) (S.count script.old) (S.count script.new)) (flow (S.left settings.old) (S.left settings.new) (S.count settings.old) (S.count settings.new)) (flow (S.left input.old) (S.left input.new) (S.count input.old) (S.count input.new)))) }
+    ensures sends { IfSome result.history (SendsAll (given words.now (C.next clock.old) (flow (S.left script.old) (S.left script.new) (S.count script.old) (S.count script.new)) (flow (S.left settings.old) (S.left settings.new) (S.count settings.old) (S.count settings.new)) (flow (S.left input.old) (S.left input.new) (S.count input.old) (S.count input.new))) result.status) }
+    ensures leaves { (start : Started) → IfSome result.history (λ h. TellsOne D.now D.images D.firm base start.base → TellsOne P.now P.images P.firm post start.post → Leaves D.honest D.now D.images D.firm P.honest P.now P.images P.firm (given words.now (C.next clock.old) (flow (S.left script.old) (S.left script.new) (S.count script.old) (S.count script.new)) (flow (S.left settings.old) (S.left settings.new) (S.count settings.old) (S.count settings.new)) (flow (S.left input.old) (S.left input.new) (S.count input.old) (S.count input.new))) start result.base result.post h) }
+    ensures base_kept { result.history ≡ None → IsRead D.honest D.now D.images D.firm D.count base result.base }
+    ensures post_kept { result.history ≡ None → IsRead P.honest P.now P.images P.firm P.count post result.post }
+    ensures prints { PrintsAll (given words.now (C.next clock.old) (flow (S.left script.old) (S.left script.new) (S.count script.old) (S.count script.new)) (flow (S.left settings.old) (S.left settings.new) (S.count settings.old) (S.count settings.new)) (flow (S.left input.old) (S.left input.new) (S.count input.old) (S.count input.new))) result.status result.history result.printed (O.held out.old) (O.held out.new) }
+    ensures row { Row (given words.now (C.next clock.old) (flow (S.left script.old) (S.left script.new) (S.count script.old) (S.count script.new)) (flow (S.left settings.old) (S.left settings.new) (S.count settings.old) (S.count settings.new)) (flow (S.left input.old) (S.left input.new) (S.count input.old) (S.count input.new))) result.status result.history }
+    ensures risen { Risen result.status (counts (D.count base) (D.count result.base) (P.count post) (P.count result.post) (O.count out.old) (O.count out.new)) }
+    ensures damage { (start : Started) → result.history ≡ None → Told D.honest D.now D.firm base result.base start.base → Told P.honest P.now P.firm post result.post start.post → IsDamage (given words.now (C.next clock.old) (flow (S.left script.old) (S.left script.new) (S.count script.old) (S.count script.new)) (flow (S.left settings.old) (S.left settings.new) (S.count settings.old) (S.count settings.new)) (flow (S.left input.old) (S.left input.new) (S.count input.old) (S.count input.new))) start.base start.post result.status }
+    ensures complete { (start : Started) → Told D.honest D.now D.firm base result.base start.base → Told P.honest P.now P.firm post result.post start.post → IsComplete (given words.now (C.next clock.old) (flow (S.left script.old) (S.left script.new) (S.count script.old) (S.count script.new)) (flow (S.left settings.old) (S.left settings.new) (S.count settings.old) (S.count settings.new)) (flow (S.left input.old) (S.left input.new) (S.count input.old) (S.count input.new))) result.status result.history (counts (D.count base) (D.count result.base) (P.count post) (P.count result.post) (O.count out.old) (O.count out.new)) start.base start.post }
 {
-    match prepare(alloc, words, input, clock) {
+    let said = match served_words(alloc, words) {
+        Ok(Some(said)) => said,
+        Ok(None) => return refused(Status::Words, post, base),
+        Err(NoMemory) => return refused(Status::NoMemory, post, base),
+    };
+    match prepare(alloc, said, script, settings, input, clock) {
         Ok(job) => {
-            let Worked { status, printed } = print(alloc, &job, out);
-            Ended {
-                status,
-                post,
-                base,
-                printed,
-            }
+            law_outcome();
+            law_drained();
+            perform(alloc, job, post, base, out)
         }
-        Err(status) => Ended {
-            status,
-            post,
-            base,
-            printed: 0,
-        },
+        Err(status) => refused(status, post, base),
     }
 }

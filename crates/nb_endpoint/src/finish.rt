@@ -1,0 +1,82 @@
+//! How work over two stores ends: the report, or the fault that was met.
+ghost use Rattle.std.specs.Prelude.{◌≡◌, true, IfErr};
+ghost use Rattle.nb_core.specs.Legal.{halted};
+ghost use Rattle.nb_core.specs.declared.answers.DeskFault.TheVariants as desk;
+ghost use Rattle.nb_endpoint.specs.Faults.{of_start, of_store, IsMet, IsStatusOf, EndIs};
+
+use crate::printing::{Worked, print};
+use crate::status::Status;
+use nb_base::{Sink, Which};
+use nb_core::{DeskFault, Event, History, State};
+use nb_hub::StartFault;
+use std::alloc::Global;
+
+/// The status of a hub that can't be started.
+pub fn of_start(fault: StartFault) -> Status
+    ensures { result ≡ of_start fault }
+{
+    match fault {
+        StartFault::StoreFailed => Status::BaseFault,
+        StartFault::PostFailed => Status::PostFault,
+        StartFault::Damaged { store, space, key } => Status::Damaged { store, space, key },
+        StartFault::NoMemory => Status::NoMemory,
+    }
+}
+
+/// The status of a store that failed.
+fn of_store(store: Which) -> Status
+    ensures { result ≡ of_store store }
+{
+    match store {
+        Which::Base => Status::BaseFault,
+        Which::Post => Status::PostFault,
+    }
+}
+
+/// The status of a history that ends in a Halt.
+fn of_halt(history: &History) -> Status
+    requires { halted history.now.events ≡ true }
+    ensures { IsStatusOf desk.Halted history.now.events result }
+{
+    let events = &history.events;
+    let Event::Halt { store } = events.at(events.len() - 1) else {
+        unreachable!()
+    };
+    of_store(*store)
+}
+
+/// The status of work that met a fault.
+fn of_fault(history: &History, fault: DeskFault) -> Status
+    requires { IsMet fault history.now.events }
+    ensures { IsStatusOf fault history.now.events result }
+{
+    match fault {
+        DeskFault::StoreFailed => Status::BaseFault,
+        DeskFault::PostFailed => Status::PostFault,
+        DeskFault::Spent => Status::Spent,
+        DeskFault::Halted => of_halt(history),
+        DeskFault::NoMemory => Status::NoMemory,
+    }
+}
+
+/// Prints the report, where the work was done, or says why it wasn't.
+pub fn end<O: Sink>(
+    alloc: Global,
+    done: Result<bool, DeskFault>,
+    turns: u64,
+    history: &History,
+    state: &State,
+    out: &mut O,
+) -> Worked
+    requires { IfErr done (λ fault. IsMet fault history.now.events) }
+    ensures { EndIs done turns history.now.events state.now result (O.held out.old) (O.held out.new) (O.count out.old) (O.count out.new) }
+{
+    match done {
+        Ok(true) => print(alloc, state, Status::Done, out),
+        Ok(false) => print(alloc, state, Status::NotDrained { takes: turns }, out),
+        Err(fault) => Worked {
+            status: of_fault(history, fault),
+            printed: 0,
+        },
+    }
+}
