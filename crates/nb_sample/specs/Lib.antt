@@ -1,0 +1,4 @@
+pub mod Ids
+pub mod Kinds
+pub mod Sample
+pub mod Texts
