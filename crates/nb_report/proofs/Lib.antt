@@ -1,3 +1,4 @@
 pub mod InOrderLaws
 pub mod ListedLaws
 pub mod PieceLaws
+pub mod TakenLaws
