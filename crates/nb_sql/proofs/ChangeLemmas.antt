@@ -23,6 +23,7 @@ use Rattle.sqlite_schema.specs.declared.command.Command.TheVariants.{InsertOr, D
 use Rattle.sqlite_schema.specs.declared.command.Source.TheVariants.{Values}
 use Rattle.sqlite_schema.specs.declared.schema.Constraint.TheVariants.{Datatype, Unique}
 use Rattle.sqlite_schema.specs.Rules.{is_of, Obeys, clashes, agree, differ}
+use Rattle.sqlite_catalog.specs.Listing.{IsSound}
 use Rattle.sqlite_rules.specs.Lists.{Has}
 use Rattle.sqlite_rules.specs.Calls.{ids_of}
 use Rattle.sqlite_rules.specs.Edit.{edit_of, without_all, id_in, row_at, put_all, are_fresh, have_rowids, with_rowid, next_rowid}
@@ -51,7 +52,7 @@ use Rattle.sqlite.specs.Effect.{Database, IsDatabase}
 use Rattle.sqlite.specs.Tree.{Trees}
 use Rattle.sqlite.proofs.Callers.{statement_of, runs_as, one_step}
 use Rattle.nb_cells.specs.Cells.{CellMap, set_at}
-use Rattle.nb_sql.specs.Held.{Sees, Tells, Shows, IsCell, IsRunning}
+use Rattle.nb_sql.specs.Held.{Sees, Tells, Holds, Shows, IsCell, IsRunning}
 use Rattle.nb_sql.specs.Statements.{put_text, erase_text, cells_schema, cells_table}
 use Rattle.nb_sql.specs.Meaning.{erase_query, at_place, equal, update_query, put_terms, put_clause}
 use Rattle.nb_sql.proofs.CompileLemmas.{erase_is, erase_plain, put_is, put_plain}
@@ -70,7 +71,7 @@ keeps old new sql params (Ok count) h = record { was_open = λ _. h.1.was_open; 
 keeps old new sql params (Err e) (inl h) = elim h.1 [ inl same ↦ unchanged_keeps old new same | inr back ↦ rolled_keeps old new back ]
 keeps old new sql params (Err e) (inr h) = unchanged_keeps old new h.2
 
-nat_eq-Decides : (a b : ℕ) → Decides (a == b) (a ≡ b)
+pub nat_eq-Decides : (a b : ℕ) → Decides (a == b) (a ≡ b)
 nat_eq-Decides a b = (λ h. grind (arith, nat_tests), λ h. grind (arith, nat_tests))
 
 pub went : {B E R : Type 0} {b : B} {Stops : E → Type 0} → ((stop : E) × Stops stop × (Ok b ≡ Err stop)) ⊎ R → R
@@ -373,11 +374,18 @@ ended_keeps g old new same = subst (λ h. KeepsCommit (state g old) (state g h))
 pub keeps_then : (a b c : State) → KeepsCommit a b → KeepsCommit b c → KeepsCommit a c
 keeps_then a b c p q = record { was_open = λ now. p.was_open (q.was_open now); committed = λ now. q.committed now ∙ p.committed (q.was_open now) }
 
+-- trees with the schema of the one table, in which it shows the map
+pub held_by : (d : Database) (db : Trees) (m : CellMap) → d.schema ≡ cells_schema → IsDatabase d → db ≡ d.trees → Shows (d.trees 0) m → Holds db m
+held_by d db m schema sound same shows = record {
+  sound = subst (IsSound cells_schema) (sym same) (subst (λ s. IsSound s d.trees) schema sound);
+  shows = subst (λ (t : Trees). Shows (t 0) m) (sym same) shows;
+}
+
 -- what stands as the transaction begins
 pub sees_begun : {S : Type 0} (g : store.Ghosts S) (stays : (s : S) → IsTrue (g.view s).is_open → g.recovers s (g.view s).committed) (h : Held S) (m : CellMap) → Tells (state g h) m → Sees (state g (record h { in_transaction = true })) m
 sees_begun g stays h m tells opened =
     let ready = tells.ready opened in
-    record { schema = ready.schema; sound = ready.sound; shaped = ready.shaped; shows = subst (λ (d : Database). Shows (d.trees 0) m) ready.kept (tells.images (g.view h.store).committed (stays h.store opened)) }
+    record { schema = ready.schema; sound = ready.sound; shaped = ready.shaped; shows = subst (λ (d : Database). Shows (d.trees 0) m) ready.kept (tells.images (g.view h.store).committed (stays h.store opened)).shows }
 
 -- a commit leaves what the transaction saw as the one image
 pub told_committed : {S : Type 0} (g : store.Ghosts S) (settled : (s : S) (db : Trees) → IsTrue (g.view s).is_open → g.recovers s db → db ≡ (g.view s).committed) (last : State) (end : Held S) (m : CellMap)
@@ -386,5 +394,5 @@ told_committed g settled last end m shown sees =
     let it = sees shown.was_open in
     record {
       ready = λ _. record { schema = ap (λ (d : Database). d.schema) shown.now_is ∙ it.schema; sound = subst IsDatabase (sym shown.now_is) it.sound; shaped = subst (λ (d : Database). IsShaped Table (d.trees 0)) (sym shown.now_is) it.shaped; kept = shown.committed_is ∙ sym shown.now_is };
-      images = λ db may. subst (λ (d : Trees). Shows (d 0) m) (sym (settled end.store db shown.is_open may ∙ ap (λ (d : Database). d.trees) shown.committed_is)) it.shows;
+      images = λ db may. held_by last.now db m it.schema it.sound (settled end.store db shown.is_open may ∙ ap (λ (d : Database). d.trees) shown.committed_is) it.shows;
     }

@@ -18,10 +18,10 @@ use Rattle.sqlite.specs.Steps.{over_memory}
 use Rattle.sqlite_trees.specs.declared.memory.MemStore.{MemStore}
 use Rattle.sqlite.proofs.Callers.{runs_as, memory_is_clean}
 use Rattle.nb_cells.specs.Cells.{CellMap}
-use Rattle.nb_sql.specs.Held.{Tells, Shows}
+use Rattle.nb_sql.specs.Held.{Tells, Holds, Shows}
 use Rattle.nb_sql.specs.Statements.{create_text, no_schema, cells_schema, cells_table}
 use Rattle.nb_sql.proofs.CompileLemmas.{create_is, create_plain, again_is, again_plain}
-use Rattle.nb_sql.proofs.ChangeLemmas.{went, same_value}
+use Rattle.nb_sql.proofs.ChangeLemmas.{went, same_value, held_by}
 
 shows_none : Shows [] (λ _ _. None)
 shows_none = record { sound = λ r s k b none cell. absurd none; complete = λ s k b is. absurd cc }
@@ -44,7 +44,7 @@ module _ {S : Type 0} (g : store.Ghosts S) (settled : (s : S) (db : Trees) → I
       let kept : new.committed ≡ new.now = w.shown.committed_is ∙ ap (λ b. cond b old.committed new.now) mode in
       record {
         ready = λ _. record { schema = ap (λ (d : Database). d.schema) now ∙ schema; sound = w.sound; shaped = subst (IsShaped shape.Table) (sym empty) (tt, tt); kept = kept };
-        images = λ db may. subst (λ t. Shows t (λ _ _. None)) (sym (ap (λ (t : Trees). t 0) (settled h.store db w.shown.is_open may ∙ ap (λ (d : Database). d.trees) kept) ∙ empty)) shows_none;
+        images = λ db may. held_by new.now db (λ _ _. None) (ap (λ (d : Database). d.schema) now ∙ schema) w.sound (settled h.store db w.shown.is_open may ∙ ap (λ (d : Database). d.trees) kept) (subst (λ t. Shows t (λ _ _. None)) (sym empty) shows_none);
       }
 
   pub creates_again : (stays : (s : S) → IsTrue (g.view s).is_open → g.recovers s (g.view s).committed) (old : Held S) (h : Held S) (m : CellMap) (r : Result ℕ Error) → Tells (state g old) m → IsTrue (state g old).is_open
@@ -61,7 +61,7 @@ module _ {S : Type 0} (g : store.Ghosts S) (settled : (s : S) (db : Trees) → I
           shaped = subst (λ (d : Database). IsShaped shape.Table (d.trees 0)) (sym same.now_is) ready.shaped;
           kept = same.committed_is ∙ ready.kept ∙ sym same.now_is;
         };
-        images = λ db may. subst (λ (t : Trees). Shows (t 0) m) (sym (settled h.store db same.is_open may ∙ ap (λ (d : Database). d.trees) same.committed_is)) (tells.images (g.view old.store).committed (stays old.store opened));
+        images = λ db may. subst (λ (t : Trees). Holds t m) (sym (settled h.store db same.is_open may ∙ ap (λ (d : Database). d.trees) same.committed_is)) (tells.images (g.view old.store).committed (stays old.store opened));
       }
 
 pub in_memory : {X E : Type 0} (r : Result X E) (conn : X → Held MemStore) (schema : Schema) → schema ≡ no_schema

@@ -33,7 +33,7 @@ use Rattle.nb_cells.specs.Cells.{CellMap}
 use Rattle.nb_sql.specs.Held.{Shows, Tells, HasCells}
 use Rattle.nb_sql.specs.Files.{HoldsCells, HoldsNothing}
 use Rattle.nb_sql.specs.Statements.{cells_schema, cells_table, cells_index, no_schema}
-use Rattle.nb_sql.proofs.ChangeLemmas.{same_value}
+use Rattle.nb_sql.proofs.ChangeLemmas.{same_value, held_by}
 
 -- ---- the list of the objects tells the schema
 
@@ -123,7 +123,7 @@ ours_shaped size wanted pages ours sound =
     subst (λ s. IsShaped s (file_trees size wanted pages 0)) is (ordered 0)
 
 -- no rowid comes twice in the table of a sound file
-held_shaped : (image : Image) (db : Trees) → HoldsDatabase image db → IsSound cells_schema db → IsShaped shape.Table (db 0)
+pub held_shaped : (image : Image) (db : Trees) → HoldsDatabase image db → IsSound cells_schema db → IsShaped shape.Table (db 0)
 held_shaped image db holds sound =
     let it = holds.2 in
     subst (λ (t : Trees). IsShaped shape.Table (t 0)) (sym it.reads) (ours_shaped holds.0 it.wanted it.pages it.ours (subst (IsSound cells_schema) it.reads sound))
@@ -163,7 +163,7 @@ module _ {S : Type 0} (g : store.Ghosts S) (settled : (s : S) (db : Trees) → I
   pub has_told : (h : Held S) (m : CellMap) → HasCells (state g h) m → Tells (state g h) m
   has_told h m has = record {
     ready = λ _. has.ready;
-    images = λ db may. subst (λ (t : Trees). Shows (t 0) m) (sym (settled h.store db has.is_open may ∙ ap (λ (d : Database). d.trees) has.ready.kept)) has.shows;
+    images = λ db may. held_by (state g h).now db m has.ready.schema has.ready.sound (settled h.store db has.is_open may ∙ ap (λ (d : Database). d.trees) has.ready.kept) has.shows;
   }
 
 -- ---- the cells over files that were opened

@@ -7,3 +7,4 @@ pub mod CreateLemmas
 pub mod ScanLemmas
 pub mod KeyLemmas
 pub mod FileLemmas
+pub mod StopLemmas

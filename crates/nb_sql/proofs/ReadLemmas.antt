@@ -17,7 +17,7 @@ use Rattle.sqlite.specs.Steps.{FailsToCommit}
 use Rattle.sqlite.specs.Effect.{Database, IsDatabase}
 use Rattle.sqlite.specs.Held.{Held, state}
 use Rattle.nb_cells.specs.Cells.{CellMap}
-use Rattle.nb_sql.specs.Held.{Tells, Shows}
+use Rattle.nb_sql.specs.Held.{Tells, Holds, Shows}
 use Rattle.sqlite.specs.Effect.{Reads}
 use Rattle.sqlite.specs.Listing.{understood, reads_listing}
 use Rattle.sqlite.proofs.Callers.{IsPlain, reads_as}
@@ -83,7 +83,7 @@ told_undone g settled stays old last end m tells kept back opened =
     let same : (state g end).now ≡ (state g old).now = undone.0 ∙ kept.committed mid ∙ ready.kept in
     record {
       ready = λ _. record { schema = ap (λ (d : Database). d.schema) same ∙ ready.schema; sound = subst IsDatabase (sym same) ready.sound; shaped = subst (λ (d : Database). Rattle.sqlite_trees.specs.View.IsShaped Rattle.sqlite_trees.specs.declared.store.Shape.TheVariants.Table (d.trees 0)) (sym same) ready.shaped; kept = undone.1 ∙ sym undone.0 };
-      images = λ db may. subst (λ (t : Trees). Shows (t 0) m) (sym (settled end.store db opened may ∙ ap (λ (d : Database). d.trees) left)) (tells.images (g.view old.store).committed (stays old.store was));
+      images = λ db may. subst (λ (t : Trees). Holds t m) (sym (settled end.store db opened may ∙ ap (λ (d : Database). d.trees) left)) (tells.images (g.view old.store).committed (stays old.store was));
     }
 
 -- so does one whose commit was refused in a transaction
@@ -143,7 +143,7 @@ gets g stays h m tells space key rows (Ok found) opened read got = go found got
     db = (state g h).now
 
     shows : Shows ((state g h).now.trees 0) m
-    shows = subst (λ (d : Database). Shows (d.trees 0) m) (tells.ready opened).kept (tells.images (g.view h.store).committed (stays h.store opened))
+    shows = subst (λ (d : Database). Shows (d.trees 0) m) (tells.ready opened).kept (tells.images (g.view h.store).committed (stays h.store opened)).shows
 
     answer : IsAnswer get_query (overlay (state g h).now.trees []) (Int (pos space) ∷ Blob key ∷ []) rows
     answer = (subst (λ c. Reads c (state g h).now (Int (pos space) ∷ Blob key ∷ []) rows) get_is read).answer Null

@@ -123,7 +123,7 @@ pub scans_all : {S E : Type 0} (g : store.Ghosts S) (stays : (s : S) → IsTrue 
 scans_all g stays h m tells space rows (Err e) opened read given = tt
 scans_all g stays h m tells space rows (Ok cells) opened read given =
     let ready = tells.ready opened in
-    let shows = subst (λ (d : Database). Shows (d.trees 0) m) ready.kept (tells.images (g.view h.store).committed (stays h.store opened)) in
+    let shows = subst (λ (d : Database). Shows (d.trees 0) m) ready.kept (tells.images (g.view h.store).committed (stays h.store opened)).shows in
     let answer = (subst (λ c. Reads c (state g h).now (Int (pos space) ∷ []) rows) scan_is read).answer Null in
     scans_cells (state g h).now m space ready.schema ready.sound shows rows answer ready.shaped cells given
 

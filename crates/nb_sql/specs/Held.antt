@@ -4,6 +4,7 @@ use Rattle.sqlite.specs.declared.types.Value.TheVariants.{Int, Blob}
 use Rattle.sqlite.specs.Order.{Row, column}
 use Rattle.sqlite.specs.Tree.{Trees}
 use Rattle.sqlite.specs.Effect.{IsDatabase}
+use Rattle.sqlite_catalog.specs.Listing.{IsSound}
 use Rattle.sqlite_trees.specs.View.{IsShaped}
 use Rattle.sqlite_trees.specs.declared.store.Shape.TheVariants.{Table}
 use Rattle.sqlite_rules.specs.Lists.{Has}
@@ -30,10 +31,15 @@ pub record IsReady (s : State) : Type 0 where
   pub shaped : IsShaped Table (s.now.trees 0)
   pub kept : s.committed ≡ s.now
 
+-- the trees are a database with the one table, which shows the map
+pub record Holds (db : Trees) (m : CellMap) : Type 0 where
+  pub sound : IsSound cells_schema db
+  pub shows : Shows (db 0) m
+
 -- each image is this map
 pub record Tells (s : State) (m : CellMap) : Type 0 where
   pub ready : IsTrue s.is_open → IsReady s
-  pub images : (db : Trees) → s.may_leave db → Shows (db 0) m
+  pub images : (db : Trees) → s.may_leave db → Holds db m
 
 -- the connection is open, and its table has the cells of the map
 pub record HasCells (s : State) (m : CellMap) : Type 0 where
@@ -41,8 +47,9 @@ pub record HasCells (s : State) (m : CellMap) : Type 0 where
   pub ready : IsReady s
   pub shows : Shows (s.now.trees 0) m
 
+-- something that may be found shows the map, or hasn't the one table: then any map may be found
 abbrev pub IsImage : State → CellMap → Type 0
-IsImage s m = (db : Trees) × s.may_leave db × Shows (db 0) m
+IsImage s m = (db : Trees) × s.may_leave db × (IsSound cells_schema db → Shows (db 0) m)
 
 -- what an open transaction sees
 pub record Seen (s : State) (m : CellMap) : Type 0 where

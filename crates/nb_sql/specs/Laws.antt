@@ -25,4 +25,4 @@ shows_one rows m n p q space key = options_agree (m space key) (n space key) (λ
 -- what a crash leaves shows each map that the database tells
 pub tells_one : {S : Type 0} (g : Ghosts S) (survives : (s : S) → IsClean (g.view s) → ∥ ((db : Trees) × g.recovers s db) ∥₁) (h : Held S) (m n : CellMap) → HasCleanDisk (state g h) → Tells (state g h) m → Tells (state g h) n → AreAlike m n
 tells_one g survives h m n clean p q space key =
-    ∥∥₁_elim (survives h.store clean) (Coded-set (coded_option (coded_list coded_ℕ)) (m space key) (n space key)) (λ it. shows_one (it.0 0) m n (p.images it.0 it.1) (q.images it.0 it.1) space key)
+    ∥∥₁_elim (survives h.store clean) (Coded-set (coded_option (coded_list coded_ℕ)) (m space key) (n space key)) (λ it. shows_one (it.0 0) m n (p.images it.0 it.1).shows (q.images it.0 it.1).shows space key)

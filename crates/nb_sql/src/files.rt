@@ -2,16 +2,20 @@
 ghost use Rattle.std.specs.Prelude.{◌≡◌, false, IfOk, None};
 ghost use Rattle.nb_cells.specs.Cells.{CellMap};
 ghost use Rattle.nb_sql.specs.Files.{HoldsCells, HoldsNothing};
-ghost use Rattle.nb_sql.specs.Held.{Tells};
+ghost use Rattle.nb_sql.specs.Held.{Tells, IsImage};
 ghost use Rattle.sqlite.specs.Files.{file_state};
 ghost use Rattle.sqlite.specs.State.{HasCleanDisk};
+ghost use Rattle.sqlite.specs.Recovery.{Image};
 ghost use Rattle.sqlite.specs.WalFiles.{image_at};
+ghost use Rattle.sqlite_wal.specs.Files.{outcomes};
+ghost use Rattle.sqlite_wal.specs.Reads.{AreClean};
 
 use crate::refusal::is_memory;
 use crate::sql_cells::SqlCells;
 use nb_base::Bytes;
 use nb_cells::{CellFault, CellList, Cells, Changes};
-use sqlite::{Connection, File, FileFrom, FileStore, Start, Unknown};
+use sqlite::{Connection, File, FileFrom, FileStore, Files, Start, Unknown};
+use sqlite_disk::Disk;
 use std::alloc::Global;
 
 impl<S: Start> SqlCells<FileStore<FileFrom<S>>> {
@@ -31,6 +35,16 @@ impl<S: Start> SqlCells<FileStore<FileFrom<S>>> {
             Err((error, _)) if is_memory(error) => Err(CellFault::NoMemory),
             Err(_) => Err(CellFault::Failed),
         }
+    }
+}
+
+impl<D: Disk + Drop> SqlCells<FileStore<D>> {
+    /// Hands the log and the database file back. Where not every map may be found in them, what a stop leaves of the two
+    /// holds one of the maps that may be found, so that the next opening tells it.
+    pub fn into_files(self) -> Files<D>
+        ensures { (p : CellMap) (image : Image) → AreClean D.Disk result.log result.db → ¬ IsImage (file_state self.conn) p → outcomes D.Disk result.log result.db image → ∥ ((m : CellMap) × IsImage (file_state self.conn) m × HoldsCells image m) ∥₁ }
+    {
+        self.release().into_store().close()
     }
 }
 

@@ -12,3 +12,6 @@ mod write;
 
 pub use files::FileCells;
 pub use sql_cells::SqlCells;
+
+#[cfg(test)]
+mod tests;

@@ -1,4 +1,6 @@
 //! Why a read was refused.
+ghost use Rattle.std.specs.Prelude.{◌≡◌, ◌↔◌, IsTrue};
+
 use nb_base::NoMemory;
 use sqlite::{Error, ErrorCode};
 
@@ -22,6 +24,8 @@ impl From<NoMemory> for Refusal {
 }
 
 /// Whether the database found no memory.
-pub(crate) fn is_memory(error: Error) -> bool {
+pub(crate) fn is_memory(error: Error) -> bool
+    ensures { IsTrue result ↔ (error ≡ Error.SqliteFailure ErrorCode.OutOfMemory) }
+{
     error == Error::SqliteFailure(ErrorCode::OutOfMemory)
 }

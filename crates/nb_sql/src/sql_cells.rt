@@ -3,6 +3,7 @@ ghost use Rattle.std.specs.Prelude.{◌≡◌, ◌⊎◌, ◌≤◌, false, true
 ghost use Rattle.nb_base.specs.Causes.{Rose};
 ghost use Rattle.nb_cells.specs.Cells.{CellMap};
 ghost use Rattle.nb_sql.specs.Held.{Tells, HasCells, IsImage, IsLasting};
+ghost use Rattle.nb_sql.specs.Refusals.{WantsMemory};
 ghost use Rattle.nb_sql.specs.Statements.{no_schema};
 ghost use Rattle.sqlite.specs.State.{HasCleanDisk};
 ghost use Rattle.sqlite.specs.Held.{state};
@@ -78,7 +79,7 @@ impl<S: Alter> SqlCells<S> {
     /// Want of memory, or a fault that is counted.
     fn refuse(&mut self, refusal: Refusal) -> CellFault
         ensures same { (self.new.conn ≡ self.old.conn) × (self.new.in_doubt ≡ self.old.in_doubt) }
-        ensures memory { refusal ≡ Refusal.NoMemory → result ≡ CellFault.NoMemory }
+        ensures memory { WantsMemory refusal → result ≡ CellFault.NoMemory }
         ensures count { result ≡ CellFault.Failed → Rose self.old.faults self.new.faults }
         ensures kept { result ≡ CellFault.NoMemory → self.new.faults ≡ self.old.faults }
         ensures later { self.old.faults ≤ self.new.faults }

@@ -1,12 +1,12 @@
 use Rattle.std.proofs.Common.{◌≡◌, inl, inr, rules, arith, sym, subst}
 use Rattle.sqlite.specs.Tree.{Trees}
 use Rattle.nb_cells.specs.Cells.{changed}
-use Rattle.nb_sql.specs.Held.{Tells, IsImage, Shows}
+use Rattle.nb_sql.specs.Held.{Tells, IsImage}
 use Rattle.sqlite.specs.State.{HasCleanDisk}
 use Rattle.sqlite.specs.Held.{state}
 use Rattle.sqlite.proofs.StateLemmas.{survives_then}
 use Rattle.sqlite.proofs.Callers.{survives_begin}
-use Rattle.nb_sql.proofs.ChangeLemmas.{sees_begun, told_committed}
+use Rattle.nb_sql.proofs.ChangeLemmas.{sees_begun, told_committed, held_by}
 use Rattle.nb_sql.specs.Laws.{shows_one}
 use Rattle.nb_sql.proofs.ReadLemmas.{told_refused}
 use Rattle.nb_sql.proofs.write.apply_all.Goals as goal
@@ -28,7 +28,9 @@ returns-in-Err-commit-clause-images g c m n clean tells image =
     (survives_begin g.S.Store old last _ (rw begun at c.change_all.ensures.survives)) c.commit.ensures.survives in
     elim (whole.crash late there.0 there.1) [
       | inl before ↦ inl (there.0, before, there.2)
-      | inr new ↦ inr (shows_one (there.0 0) n (changed c.args.changes.now m) there.2 (subst (λ (d : Trees). Shows (d 0) (changed c.args.changes.now m)) (sym new) (ended opened.0).shows))
+      | inr new ↦ let seen = ended opened.0 in
+          let held = held_by last.now there.0 (changed c.args.changes.now m) seen.schema seen.sound new seen.shows in
+          inr (shows_one (there.0 0) n (changed c.args.changes.now m) (there.2 held.sound) held.shows)
     ]
 
 pub returns-in-Err-clause-images : goal.returns-in-Err-clause-images

@@ -6,12 +6,13 @@ use Rattle.nb_sql.proofs.sql_cells.SqlCellsCells.apply.Goals as goal
 pub returns-then-is_empty-clause-ok_images : goal.returns-then-is_empty-clause-ok_images
 returns-then-is_empty-clause-ok_images g c m n clean firm tells image =
     let none : c.args.changes.now ≡ [] = search rules in
-    subst (λ cs. AreAlike n (changed cs m)) (sym none) (shows_one (image.0 0) n m image.2 (tells.images image.0 image.1))
+    subst (λ cs. AreAlike n (changed cs m)) (sym none) (let held = tells.images image.0 image.1 in shows_one (image.0 0) n m (image.2 held.sound) held.shows)
 
 pub returns-in-Ok-clause-ok_images : goal.returns-in-Ok-clause-ok_images
 returns-in-Ok-clause-ok_images g c m n clean firm tells image =
     let new = rw c.as_slice.ensures at (c.in-Ok.ensures.ok m clean tells) in
-    shows_one (image.0 0) n (changed c.args.changes.now m) image.2 (new.images image.0 image.1)
+    let held = new.images image.0 image.1 in
+    shows_one (image.0 0) n (changed c.args.changes.now m) (image.2 held.sound) held.shows
 
 pub returns-in-Err-Inside-clause-no_memory : goal.returns-in-Err-Inside-clause-no_memory
 returns-in-Err-Inside-clause-no_memory g c m clean firm tells is =
