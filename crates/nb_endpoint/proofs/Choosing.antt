@@ -87,8 +87,8 @@ module _ {K V : Type 0} {R : K → K → Ordering} (x : IsExact R) (test : K × 
   found (e ∷ es) h i k at =
       go
       (λ n there.
-          let r = found es (parts _ _ h).1 n k there in
-          (r.0, found_later e es k (above e.0 es (parts _ _ h).0 n k there) ∙ r.1, r.2))
+      let r = found es (parts _ _ h).1 n k there in
+      (r.0, found_later e es k (above e.0 es (parts _ _ h).0 n k there) ∙ r.1, r.2))
       (test e) refl i at
     where
       go : ((n : ℕ) → slice_get (chosen es) n ≡ Some k → (v : V) × (find R k (e ∷ es) ≡ Some v) × (test (k, v) ≡ true)) → (b : Bool) → test e ≡ b → (i : ℕ) → slice_get (cons_option (cond b (Some e.0) None) (chosen es)) i ≡ Some k → (v : V) × (find R k (e ∷ es) ≡ Some v) × (test (k, v) ≡ true)

@@ -14,7 +14,7 @@ use Rattle.nb_endpoint.specs.declared.status.Status.TheVariants.{Done, NotDraine
 module _ (g : Given) (c : Counts) (m n : CellMap) (valid : IsValid g) (cells : AreCellsValid g m n) (still : IsStill g c) where
   -- nothing was begun
   begun_not : (status : Status) → Row g status None → Risen status c → IsDamage g m n status → IsFine status
-  begun_not Done row risen damage = absurd row.2
+  begun_not Done row risen damage = tt
   begun_not (NotDrained takes) row risen damage = absurd row.2
   begun_not Words row risen damage = valid.words_are row
   begun_not (Script line column kind) row risen damage = valid.script_is row.2.0 line column kind row.2.1 row.2.2
@@ -23,7 +23,7 @@ module _ (g : Given) (c : Counts) (m n : CellMap) (valid : IsValid g) (cells : A
   begun_not (ReadFault origin.Script) row risen damage = still.script row.2
   begun_not (ReadFault origin.Settings) row risen damage = still.settings row.2
   begun_not (ReadFault origin.Lines) row risen damage = still.lines row.2.1
-  begun_not WriteFault row risen damage = absurd row.2
+  begun_not WriteFault row risen damage = still.out risen
   begun_not BaseFault row risen damage = still.base risen
   begun_not PostFault row risen damage = still.post risen
   begun_not NoMemory row risen damage = tt

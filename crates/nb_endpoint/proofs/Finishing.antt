@@ -21,11 +21,11 @@ use Rattle.nb_core.specs.declared.state.State.{State}
 use Rattle.nb_endpoint.proofs.Ending.{met}
 use Rattle.nb_endpoint.proofs.Leaving.{base_left, post_left}
 use Rattle.nb_endpoint.proofs.Performing.{Over, begins, follows, state_is, works_fixed}
-use Rattle.nb_endpoint.proofs.Showing.{came, shows, through}
+use Rattle.nb_endpoint.proofs.Showing.{Came, came, shows, through}
 use Rattle.nb_endpoint.specs.Asked.{Asked}
 use Rattle.nb_endpoint.specs.Faults.{IsMet, IsStatusOf, EndIs, of_store}
 use Rattle.nb_endpoint.specs.Finishing.{IsNew, IsFinished}
-use Rattle.nb_endpoint.specs.Follows.{Follows, constants_of, state_in, until_of}
+use Rattle.nb_endpoint.specs.Follows.{Begins, Follows, constants_of, state_in, until_of}
 use Rattle.nb_endpoint.specs.Left.{BaseLeft, PostLeft}
 use Rattle.nb_endpoint.specs.Printing.{EndsAs, PrintIs, Stays}
 use Rattle.nb_endpoint.specs.Prints.{Prints}
@@ -160,7 +160,7 @@ module _ (a : Asked) (said : Said) (task : Task) (p q : Past) (h : History) (r :
   same : q.fixed ≡ p.fixed
   same = works_fixed said.command task.messages task.until r (seen p) (seen q) works
 
-  opening_is : p.fixed.opening ≡ h.opening
+  pub opening_is : p.fixed.opening ≡ h.opening
   opening_is = ap (λ (x : Fixed). x.opening) (sym same) ∙ ap (λ (x : History). x.opening) (sym is)
 
   over : Over a (seen p) (seen q) h
@@ -191,6 +191,15 @@ module _ (a : Asked) (said : Said) (task : Task) (p q : Past) (h : History) (r :
         shows = shows a h r s x old new o0 o1 (came a (seen p) (seen q) h over a.said.command refl r works_asked) ends;
         prints = subst (λ (y : State). Prints x.status y x.printed old new) there (prints_end r a.said.turns h.events s x old new o0 o1 ends);
       }
+
+  -- the state that is handed out is that of the history
+  pub state_there : (s : State) → s ≡ state_at q → s ≡ state_in a h
+  state_there s is = is ∙ state_is a (seen p) (seen q) h over
+
+  -- work that is done
+  pub done_as : r ≡ Ok true → Begins a h × Follows a Done h × Shows a Done h
+  done_as ok =
+      (begins a (seen p) (seen q) h over, follows a (seen p) (seen q) h over a.said.command refl Done r (λ t. (true, ok)) n.built works_asked, subst (Came a h) ok (came a (seen p) (seen q) h over a.said.command refl r works_asked))
 
   module _ {P D : Type 0} (bh : D → Type 0) (bn bi : D → CellMap → Type 0) (bf : D → Type 0) (ph : P → Type 0) (pn pi : P → CellMap → Type 0) (pf : P → Type 0) (base : D) (post : P) where
     pub stores_left : (start : Started) → DeskStands bh bn bi bf ph pn pi pf start q base post → BaseLeft bh bn bi bf start.base a h base × PostLeft ph pn pi pf start.post a h post

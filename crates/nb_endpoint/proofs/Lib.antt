@@ -11,4 +11,6 @@ pub mod Leaving
 pub mod Finishing
 pub mod Starting
 pub mod Completing
+pub mod Saying
 pub mod Lifting
+pub mod Sampled

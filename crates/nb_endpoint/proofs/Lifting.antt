@@ -1,9 +1,7 @@
 -- What was done for a job, as what the top call promises.
-use Rattle.std.proofs.Common.{◌≡◌, ◌≢◌, ℕ, ◌<◌, ◌≤◌, List, Bool, true, false, Option, Some, None, refl, sym, ap, ◌∙◌, subst, arith}
-use Rattle.std.proofs.lemmas.Bool.{leb-true}
-use Rattle.std.specs.Prelude.{Ok, IfSome, MatchOption, ◌&&◌, nat_le, option_and_then, option_map, if◌then◌else◌, codes}
-use Rattle.std.specs.Str.Parse.{digits_value}
-use Rattle.clap.specs.Words.{Row as Match, matches_of, first_of}
+use Rattle.std.proofs.Common.{◌≡◌, ◌≢◌, ℕ, List, Option, Some, None, refl, sym, ap, ◌∙◌, subst}
+use Rattle.nb_base.specs.Causes.{Rose}
+use Rattle.std.specs.Prelude.{Ok, IfSome, MatchOption}
 use Rattle.nb_base.specs.Meanings.{IsMeaning}
 use Rattle.nb_cells.specs.Cells.{CellMap}
 use Rattle.nb_core.specs.Drained.{Drained}
@@ -13,9 +11,10 @@ use Rattle.nb_core.specs.Standing.{Constants}
 use Rattle.nb_core.specs.declared.history.History.{History}
 use Rattle.nb_core.specs.declared.state.State.{State}
 use Rattle.nb_endpoint.specs.Asked.{Asked, IsAsked, IsMoment, SettingsAre, MessagesAre, IsRefused, Prepares, asked_by}
-use Rattle.nb_endpoint.specs.Built.{if_built, served_words}
+use Rattle.nb_endpoint.specs.Sampling.{PrintsSample}
+use Rattle.nb_endpoint.specs.Served.{served_words}
 use Rattle.nb_endpoint.specs.Follows.{Begins, Follows, constants_of, state_in, until_of}
-use Rattle.nb_endpoint.specs.Headline.{Given, Asks, Opens as OpensAt, Acts, ComesTo, SendsAll, Leaves, PrintsAll, Row, Stops, IsDamage}
+use Rattle.nb_endpoint.specs.Headline.{Given, Asks, Opens as OpensAt, Acts, ComesTo, SendsAll, Leaves, PrintsAll, PrintsAlone, PrintsFor, Row, Stops, IsDamage}
 use Rattle.nb_endpoint.specs.Left.{BaseLeft, PostLeft, RefusesBase, RefusesPost}
 use Rattle.nb_endpoint.specs.Prints.{Prints, PrintsNothing}
 use Rattle.nb_endpoint.specs.Rows.{Shows, IsDrained, IsOfStart, Counts, Risen}
@@ -24,94 +23,14 @@ use Rattle.nb_endpoint.specs.declared.job.Job.{Job}
 use Rattle.nb_endpoint.specs.declared.status.Status.{Status}
 use Rattle.nb_endpoint.specs.declared.status.Status.TheVariants.{Done, NotDrained, Words, Script, Settings, Input, ReadFault, WriteFault, BaseFault, PostFault, NoMemory, Damaged, Spent}
 use Rattle.nb_endpoint.proofs.Routing.{routes_of}
+use Rattle.nb_endpoint.proofs.Saying.{served}
 use Rattle.nb_hub.specs.Desks.{Started}
 use Rattle.nb_hub.specs.Starting.{TellsOne}
 use Rattle.nb_script.specs.Tree.{script}
-use Rattle.nb_words.specs.Cli.{cli, command_of, is_number, is_refused, moment_or, number_or, within, words_in, words_of}
+use Rattle.nb_words.specs.Cli.{words_of}
 use Rattle.nb_words.specs.declared.words.Command.{Command}
 use Rattle.nb_words.specs.declared.words.Command.TheVariants.{Run, Show, Retry, Purge, Sample}
 use Rattle.nb_words.specs.declared.words.Words.{Words as Said}
-
--- ---- what the words say
-
--- the command is built
-built : (o : Option Said) (said : Said) → option_and_then (λ (x : Said). if_built x x.command) o ≡ Some said → (o ≡ Some said) × (said.command ≢ Sample)
-built None said h = absurd (cc)
-built (Some x) said h = go x.command refl h
-  where
-    go : (c : Command) → x.command ≡ c → if_built x c ≡ Some said → (Some x ≡ Some said) × (said.command ≢ Sample)
-    go Run is h = (h, λ e. absurd (cc))
-    go Show is h = (h, λ e. absurd (cc))
-    go Retry is h = (h, λ e. absurd (cc))
-    go Purge is h = (h, λ e. absurd (cc))
-    go Sample is h = absurd (cc)
-
-pub served : (words : List (List ℕ)) (said : Said) → served_words words ≡ Some said → (words_of words ≡ Some said) × (said.command ≢ Sample)
-served words said h = built (words_of words) said h
-
-both : (a b : Bool) → (a && b) ≡ true → (a ≡ true) × (b ≡ true)
-both true b h = (refl, h)
-both false b h = absurd (cc)
-
--- a number that is allowed is at least the least one
-within_least : (low high n m : ℕ) → within low high n ≡ Some m → low ≤ m
-within_least low high n m h = go (nat_le low n && nat_le n high) refl h
-  where
-    go : (b : Bool) → (nat_le low n && nat_le n high) ≡ b → (if b then Some n else None) ≡ Some m → low ≤ m
-    go true is h =
-        let same : n ≡ m = cc in
-        subst (λ (x : ℕ). low ≤ x) same (leb-true low n (both (nat_le low n) (nat_le n high) is).0)
-    go false is h = absurd (cc)
-
-turns_some : (o : Option (List ℕ)) (m : ℕ) → number_or 1 200000 100000 o ≡ Some m → 0 < m
-turns_some None m h =
-    let same : 100000 ≡ m = cc in
-    omega (arith, same)
-turns_some (Some t) m h = go (is_number t) refl h
-  where
-    go : (b : Bool) → is_number t ≡ b → (if b then within 1 200000 (digits_value 10 t) else None) ≡ Some m → 0 < m
-    go true is h = let least = within_least 1 200000 (digits_value 10 t) m h in omega (arith, least)
-    go false is h = absurd (cc)
-
--- what the options say together
-abbrev pub together : Option Command → Option ℕ → Option (Option ℕ) → Option ℕ → Option ℕ → Option ℕ → Option ℕ → Option Said
-together command workers at horizon turns seed count =
-    option_and_then (λ (k : Command).
-    option_and_then (λ (w : ℕ).
-    option_and_then (λ (a : Option ℕ).
-    option_and_then (λ (h : ℕ).
-    option_and_then (λ (t : ℕ).
-    option_and_then (λ (s : ℕ).
-    option_map (λ (n : ℕ). record { command = k; workers = w; at = a; horizon = h; turns = t; seed = s; count = n })
-    count) seed) turns) horizon) at) workers) command
-
-turns_in : (k : Option Command) (w : Option ℕ) (a : Option (Option ℕ)) (h t s n : Option ℕ) (said : Said) → together k w a h t s n ≡ Some said → t ≡ Some said.turns
-turns_in None w a h t s n said e = absurd (cc)
-turns_in (Some k) None a h t s n said e = absurd (cc)
-turns_in (Some k) (Some w) None h t s n said e = absurd (cc)
-turns_in (Some k) (Some w) (Some a) None t s n said e = absurd (cc)
-turns_in (Some k) (Some w) (Some a) (Some h) None s n said e = absurd (cc)
-turns_in (Some k) (Some w) (Some a) (Some h) (Some t) None n said e = absurd (cc)
-turns_in (Some k) (Some w) (Some a) (Some h) (Some t) (Some s) None said e = absurd (cc)
-turns_in (Some k) (Some w) (Some a) (Some h) (Some t) (Some s) (Some n) said e = ap (option_map (λ (x : Said). x.turns)) e
-
-else_some : (b : Bool) (o : Option Said) (said : Said) → (if b then None else o) ≡ Some said → o ≡ Some said
-else_some true o said h = absurd (cc)
-else_some false o said h = h
-
-some_in : (rows : List Match) (said : Said) → words_in rows ≡ Some said → 0 < said.turns
-some_in rows said h =
-    turns_some (first_of (codes "turns") rows) said.turns
-    (turns_in (option_and_then command_of (first_of (codes "command") rows)) (number_or 1 16 1 (first_of (codes "workers") rows)) (moment_or (first_of (codes "at") rows))
-    (number_or 0 31536000 0 (first_of (codes "horizon") rows)) (number_or 1 200000 100000 (first_of (codes "turns") rows)) (number_or 0 1000000 1 (first_of (codes "seed") rows))
-    (number_or 1 20000 1000 (first_of (codes "count") rows)) said h)
-
--- a message may be taken
-some_said : (words : List (List ℕ)) (said : Said) → words_of words ≡ Some said → 0 < said.turns
-some_said words said h = some_in (matches_of cli words) said (else_some (is_refused words) (words_in (matches_of cli words)) said h)
-
-pub some_turns : (words : List (List ℕ)) (said : Said) (job : Job) → served_words words ≡ Some said → job.said ≡ said → 0 < job.said.turns
-some_turns words said job h same = subst (λ (x : Said). 0 < x.turns) (sym same) (some_said words said (served words said h).0)
 
 -- ---- what is asked for
 
@@ -130,6 +49,32 @@ asked words clock s t l said job h p =
 
 pub has_routes : (t : Flow) (job : Job) → SettingsAre t (script job.handlers.checked) job.settings → HasRoutes (constants_of (asked_by job))
 has_routes t job h = routes_of (script job.handlers.checked) job.settings h.2.routed
+
+-- ---- what is printed without a history
+
+alone_nothing : (said : Said) (c : Command) (status : Status) (n : ℕ) (old new : Option (List ℕ)) → c ≢ Sample → PrintsNothing n old new → PrintsAlone c said status n old new
+alone_nothing said Run status n old new other h = h
+alone_nothing said Show status n old new other h = h
+alone_nothing said Retry status n old new other h = h
+alone_nothing said Purge status n old new other h = h
+alone_nothing said Sample status n old new other h = absurd (other refl)
+
+pub prints_nothing : (words : List (List ℕ)) (said : Said) → words_of words ≡ Some said → said.command ≢ Sample → (status : Status) (n : ℕ) (old new : Option (List ℕ)) → PrintsNothing n old new
+    → PrintsFor (words_of words) status n old new
+prints_nothing words said is other status n old new h =
+    subst (λ (o : Option Said). PrintsFor o status n old new) (sym is) (alone_nothing said said.command status n old new other h)
+
+-- want of memory, whatever the words say
+alone_short : (said : Said) (c : Command) (n : ℕ) (old new : Option (List ℕ)) → PrintsNothing n old new → PrintsAlone c said NoMemory n old new
+alone_short said Run n old new h = h
+alone_short said Show n old new h = h
+alone_short said Retry n old new h = h
+alone_short said Purge n old new h = h
+alone_short said Sample n old new h = h
+
+pub prints_short : (o : Option Said) (n : ℕ) (old new : Option (List ℕ)) → PrintsNothing n old new → PrintsFor o NoMemory n old new
+prints_short None n old new h = h
+prints_short (Some said) n old new h = alone_short said said.command n old new h
 
 -- ---- what was done
 
@@ -165,7 +110,7 @@ module _ (g : Given) (a : Asked) (asks : Asks g a) where
 
   pub prints : (status : Status) (o : Option History) (n : ℕ) (old new : Option (List ℕ))
       → MatchOption o (PrintsNothing n old new) (λ (h : History). Prints status (state_in a h) n old new) → PrintsAll g status o n old new
-  prints status None n old new h = h
+  prints status None n old new h = prints_nothing g.words a.said asks.said_is asks.stores status n old new h
   prints status (Some x) n old new h = (a, asks, h)
 
   started : (status : Status) → IsOfStart status → Stops g status
@@ -248,3 +193,57 @@ refused_risen c s t l counts PostFault r = absurd r
 refused_risen c s t l counts NoMemory r = tt
 refused_risen c s t l counts (Damaged store space key) r = tt
 refused_risen c s t l counts Spent r = tt
+
+-- ---- a sample
+
+pub sample_prints : (words : List (List ℕ)) (said : Said) → words_of words ≡ Some said → said.command ≡ Sample → (status : Status) (n : ℕ) (old new : Option (List ℕ))
+    → PrintsSample said.seed said.count status n old new → PrintsFor (words_of words) status n old new
+sample_prints words said is sample status n old new h =
+    subst (λ (o : Option Said). PrintsFor o status n old new) (sym is) (subst (λ (c : Command). PrintsAlone c said status n old new) (sym sample) h)
+
+module _ (g : Given) (said : Said) (is : words_of g.words ≡ Some said) (sample : said.command ≡ Sample) where
+  pub sample_stops : (status : Status) (n : ℕ) (old new : Option (List ℕ)) → PrintsSample said.seed said.count status n old new → Stops g status
+  sample_stops Done n old new h = (said, is, sample)
+  sample_stops (NotDrained takes) n old new h = absurd h
+  sample_stops Words n old new h = absurd h
+  sample_stops (Script line column kind) n old new h = absurd h
+  sample_stops (Settings key kind) n old new h = absurd h
+  sample_stops (Input line kind) n old new h = absurd h
+  sample_stops (ReadFault source) n old new h = absurd h
+  sample_stops WriteFault n old new h = (said, is, sample)
+  sample_stops BaseFault n old new h = absurd h
+  sample_stops PostFault n old new h = absurd h
+  sample_stops NoMemory n old new h = tt
+  sample_stops (Damaged store space key) n old new h = absurd h
+  sample_stops Spent n old new h = absurd h
+
+  pub sample_damage : (a b : CellMap) (status : Status) (n : ℕ) (old new : Option (List ℕ)) → PrintsSample said.seed said.count status n old new → IsDamage g a b status
+  sample_damage a b Done n old new h = tt
+  sample_damage a b (NotDrained takes) n old new h = tt
+  sample_damage a b Words n old new h = tt
+  sample_damage a b (Script line column kind) n old new h = tt
+  sample_damage a b (Settings key kind) n old new h = tt
+  sample_damage a b (Input line kind) n old new h = tt
+  sample_damage a b (ReadFault source) n old new h = tt
+  sample_damage a b WriteFault n old new h = tt
+  sample_damage a b BaseFault n old new h = tt
+  sample_damage a b PostFault n old new h = tt
+  sample_damage a b NoMemory n old new h = tt
+  sample_damage a b (Damaged store space key) n old new h = absurd h
+  sample_damage a b Spent n old new h = tt
+
+pub sample_risen : (seed count : ℕ) (c : Counts) (status : Status) (n : ℕ) (old new : Option (List ℕ)) → PrintsSample seed count status n old new
+    → (status ≡ WriteFault → Rose c.out_before c.out_after) → Risen status c
+sample_risen seed count c Done n old new h rose = tt
+sample_risen seed count c (NotDrained takes) n old new h rose = tt
+sample_risen seed count c Words n old new h rose = tt
+sample_risen seed count c (Script line column kind) n old new h rose = tt
+sample_risen seed count c (Settings key kind) n old new h rose = tt
+sample_risen seed count c (Input line kind) n old new h rose = tt
+sample_risen seed count c (ReadFault source) n old new h rose = tt
+sample_risen seed count c WriteFault n old new h rose = rose refl
+sample_risen seed count c BaseFault n old new h rose = absurd h
+sample_risen seed count c PostFault n old new h rose = absurd h
+sample_risen seed count c NoMemory n old new h rose = tt
+sample_risen seed count c (Damaged store space key) n old new h rose = tt
+sample_risen seed count c Spent n old new h rose = tt

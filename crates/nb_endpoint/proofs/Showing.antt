@@ -145,12 +145,12 @@ module _ (a : Asked) (v w : View) (h : History) (o : Over a v w h) where
   run_came (Ok false) is x =
       ⊎_elim (λ (bad : ⊥). absurd bad)
       (λ (y : (u : View) × Goes _ (Ok tt) v u × DrainIs (until_of a) _ (Ok false) u w).
-          let e = y.2.end in
-          let most = within_le w.fixed.turns 0 w.events (omega arith) o.legal.within in
-          let least = e.2 in
-          let turns : w.fixed.turns ≡ a.said.turns = ap (λ (z : Fixed). z.turns) o.same ∙ o.turns in
-          let same : takes h.events ≡ takes w.events = ap takes (sym o.events) in
-          (off_here e.0, is, (λ d. e.1 (drained_there d)), omega (arith, most, least, turns, same))) x
+      let e = y.2.end in
+      let most = within_le w.fixed.turns 0 w.events (omega arith) o.legal.within in
+      let least = e.2 in
+      let turns : w.fixed.turns ≡ a.said.turns = ap (λ (z : Fixed). z.turns) o.same ∙ o.turns in
+      let same : takes h.events ≡ takes w.events = ap takes (sym o.events) in
+      (off_here e.0, is, (λ d. e.1 (drained_there d)), omega (arith, most, least, turns, same))) x
   run_came (Err f) is x =
       ⊎_elim (λ (g : Goes _ (Err f) v w). met_here f g.end)
       (λ (y : (u : View) × Goes _ (Ok tt) v u × DrainIs (until_of a) _ (Err f) u w). met_here f y.2.end) x

@@ -11,7 +11,7 @@ use Rattle.nb_endpoint.specs.Left.{BaseLeft, PostLeft, RefusesBase, RefusesPost}
 use Rattle.nb_endpoint.specs.Prints.{Prints, PrintsNothing}
 use Rattle.nb_endpoint.specs.Rows.{Shows, IsOfStart, IsSpentIn, Counts}
 use Rattle.nb_endpoint.specs.Scripts.{IsMistake}
-use Rattle.nb_endpoint.specs.Sources.{Flow, IsRead, HasFailed}
+use Rattle.nb_endpoint.specs.Sources.{Flow, IsRead, HasFailed, flow}
 use Rattle.nb_endpoint.specs.declared.status.Mistake.{Mistake}
 use Rattle.nb_endpoint.specs.declared.status.Status.{Status}
 use Rattle.nb_endpoint.specs.declared.status.Status.TheVariants.{Done, NotDrained, Words, Script, Settings, Input, ReadFault, WriteFault, BaseFault, PostFault, NoMemory, Damaged, Spent}
@@ -28,9 +28,11 @@ use Rattle.nb_settings.specs.declared.refusal.SettingsFault.{SettingsFault}
 use Rattle.nb_store.specs.Scanning.{IsLeastFault}
 use Rattle.nb_hub.specs.Starting.{IsMisfit}
 use Rattle.nb_words.specs.Cli.{words_of}
-use Rattle.nb_words.specs.declared.words.Command.TheVariants.{Run}
+use Rattle.nb_words.specs.declared.words.Command.TheVariants.{Run, Show, Retry, Purge, Sample}
 use Rattle.nb_words.specs.declared.words.Words.{Words as Said}
-use Rattle.nb_endpoint.specs.Built.{served_words}
+use Rattle.nb_endpoint.specs.Sampling.{PrintsSample}
+use Rattle.nb_endpoint.specs.Served.{served_words, AskSample}
+use Rattle.nb_words.specs.declared.words.Command.{Command}
 
 -- what is handed in: the words, the clock's answer, and the three sources
 pub record Given : Type 0 where
@@ -40,8 +42,14 @@ pub record Given : Type 0 where
   pub settings : Flow
   pub lines : Flow
 
-abbrev pub given : List (List ℕ) → Option ℕ → Flow → Flow → Flow → Given
-given words clock script settings lines = record { words = words; clock = clock; script = script; settings = settings; lines = lines }
+abbrev pub given : {S C : Type 0} → (S → Option (List ℕ)) → (S → ℕ) → (C → Option ℕ) → List (List ℕ) → C → S → S → S → S → S → S → Given
+given left count next words clock script0 script1 settings0 settings1 lines0 lines1 = record {
+  words = words;
+  clock = next clock;
+  script = flow (left script0) (left script1) (count script0) (count script1);
+  settings = flow (left settings0) (left settings1) (count settings0) (count settings1);
+  lines = flow (left lines0) (left lines1) (count lines0) (count lines1);
+}
 
 abbrev pub Asks : Given → Asked → Type 0
 Asks g a = IsAsked g.words g.clock g.script g.settings g.lines a
@@ -72,14 +80,28 @@ abbrev pub Leaves : {P D : Type 0} → (D → Type 0) → (D → CellMap → Typ
 Leaves bh bn bi bf ph pn pi pf g start base post h =
     (a : Asked) × Asks g a × BaseLeft bh bn bi bf start.base a h base × PostLeft ph pn pi pf start.post a h post
 
--- Output. The report of the state with status 0 or 1, a beginning of it with 7, and else nothing.
+-- without a history: a sample prints its summary, and else nothing is printed
+abbrev pub PrintsAlone : Command → Said → Status → ℕ → Option (List ℕ) → Option (List ℕ) → Type 0
+PrintsAlone Run said status n old new = PrintsNothing n old new
+PrintsAlone Show said status n old new = PrintsNothing n old new
+PrintsAlone Retry said status n old new = PrintsNothing n old new
+PrintsAlone Purge said status n old new = PrintsNothing n old new
+PrintsAlone Sample said status n old new = PrintsSample said.seed said.count status n old new
+
+abbrev pub PrintsFor : Option Said → Status → ℕ → Option (List ℕ) → Option (List ℕ) → Type 0
+PrintsFor None status n old new = PrintsNothing n old new
+PrintsFor (Some said) status n old new = PrintsAlone said.command said status n old new
+
+-- Output. The report of the state with status 0 or 1, a beginning of it with 7, and else nothing; of a sample its summary.
 abbrev pub PrintsAll : Given → Status → Option History → ℕ → Option (List ℕ) → Option (List ℕ) → Type 0
-PrintsAll g status None n old new = PrintsNothing n old new
+PrintsAll g status None n old new = PrintsFor (words_of g.words) status n old new
 PrintsAll g status (Some h) n old new = (a : Asked) × Asks g a × Prints status (state_in a h) n old new
 
 -- Status, of what the words and the sources show where nothing was begun, and of what the history shows
 abbrev pub Stops : Given → Status → Type 0
-Stops g Words = served_words g.words ≡ None
+Stops g Words = words_of g.words ≡ None
+Stops g Done = AskSample g.words
+Stops g WriteFault = AskSample g.words
 Stops g NoMemory = Unit {0}
 Stops g BaseFault = (a : Asked) × Asks g a
 Stops g PostFault = (a : Asked) × Asks g a
@@ -96,11 +118,19 @@ IsDamage g m n (Damaged store space key) =
     (a : Asked) × Asks g a × RefusesBase (meaning_of a.items) m (Damaged store space key) × RefusesPost n (Damaged store space key)
 IsDamage g m n _ = Unit {0}
 
+-- Where the words say nothing, or ask for a sample, no source is read, and neither store is called.
+pub record IsApart {S P D : Type 0} (script0 script1 settings0 settings1 lines0 lines1 : S) (base0 base1 : D) (post0 post1 : P) : Type 0 where
+  pub script_kept : script1 ≡ script0
+  pub settings_kept : settings1 ≡ settings0
+  pub lines_kept : lines1 ≡ lines0
+  pub base_kept : base1 ≡ base0
+  pub post_kept : post1 ≡ post0
+
 -- ---- completeness
 
 -- the words, the script, the settings and the lines are valid
 pub record IsValid (g : Given) : Type 0 where
-  pub words_are : served_words g.words ≢ None
+  pub words_are : words_of g.words ≢ None
   pub script_is : (bytes : List ℕ) (line column : ℕ) (kind : Mistake) → IsRead 1048576 g.script bytes → IsMistake bytes line column kind → ⊥
   pub settings_are : (items : List ItemTerm) (bytes : List ℕ) (f : SettingsFault) → ScriptIs g.script items → IsRead 1048576 g.settings bytes → first (faults_for bytes (sends items)) ≢ Some f
   pub lines_are : (bytes : List ℕ) (f : InputFault) → IsRead 16777216 g.lines bytes → messages_of bytes ≢ Rattle.std.specs.Prelude.Err f

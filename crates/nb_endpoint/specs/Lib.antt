@@ -7,10 +7,11 @@ pub mod Asked
 pub mod Works
 pub mod Follows
 pub mod Prints
+pub mod Sampling
 pub mod Printing
 pub mod Faults
 pub mod Rows
-pub mod Built
+pub mod Served
 pub mod Left
 pub mod Finishing
 pub mod Headline

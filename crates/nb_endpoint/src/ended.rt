@@ -44,7 +44,7 @@ pub struct Ended<P, D> {
 }
 
 /// Does the work of a command at a hub.
-fn work<H: Handling, M: Handling + Drop, P: Cells, D: Cells>(
+pub(crate) fn work<H: Handling, M: Handling + Drop, P: Cells, D: Cells>(
     alloc: Global,
     handling: &H,
     command: Command,

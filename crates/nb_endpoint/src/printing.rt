@@ -1,8 +1,8 @@
-//! The report of a state, printed.
-ghost use Rattle.nb_endpoint.specs.Printing.{EndsAs, PrintIs};
+//! Texts, printed.
+ghost use Rattle.nb_endpoint.specs.Printing.{EndsAs, PrintIs, TextIs};
 
 use crate::status::Status;
-use nb_base::{Sink, write_all};
+use nb_base::{Sink, Text, write_all};
 use nb_core::State;
 use nb_report::report;
 use std::alloc::Global;
@@ -14,20 +14,11 @@ pub struct Worked {
     pub printed: u64,
 }
 
-/// Prints the report of a state at which the work ended with this status.
-pub fn print<O: Sink>(alloc: Global, state: &State, ended: Status, out: &mut O) -> Worked
+/// Prints a text behind which the work ends with this status.
+pub(crate) fn write<O: Sink>(text: &Text, ended: Status, out: &mut O) -> Worked
     requires { EndsAs ended }
-    ensures { PrintIs ended state.now result (O.held out.old) (O.held out.new) (O.count out.old) (O.count out.new) }
+    ensures { TextIs ended text.now result (O.held out.old) (O.held out.new) (O.count out.old) (O.count out.new) }
 {
-    let text = match report(alloc, state) {
-        Ok(text) => text,
-        Err(_no_memory) => {
-            return Worked {
-                status: Status::NoMemory,
-                printed: 0,
-            };
-        }
-    };
     let bytes = text.as_str().as_bytes();
     match write_all(out, bytes) {
         Ok(()) => Worked {
@@ -37,6 +28,20 @@ pub fn print<O: Sink>(alloc: Global, state: &State, ended: Status, out: &mut O) 
         Err(stop) => Worked {
             status: Status::WriteFault,
             printed: stop.written,
+        },
+    }
+}
+
+/// Prints the report of a state at which the work ended with this status.
+pub fn print<O: Sink>(alloc: Global, state: &State, ended: Status, out: &mut O) -> Worked
+    requires { EndsAs ended }
+    ensures { PrintIs ended state.now result (O.held out.old) (O.held out.new) (O.count out.old) (O.count out.new) }
+{
+    match report(alloc, state) {
+        Ok(text) => write(&text, ended, out),
+        Err(_no_memory) => Worked {
+            status: Status::NoMemory,
+            printed: 0,
         },
     }
 }

@@ -1,35 +1,31 @@
 //! The top call.
-ghost use Rattle.std.specs.Prelude.{◌≡◌, ◌⊎◌, None, IfOk, IfSome};
+ghost use Rattle.std.specs.Prelude.{◌≡◌, ◌⊎◌, ◌↔◌, IsTrue, None, IfOk, IfSome};
+ghost use Rattle.nb_words.specs.declared.words.Command.TheVariants.{Sample};
 ghost use Rattle.nb_endpoint.specs.Asked.{IsRefused};
-ghost use Rattle.nb_endpoint.specs.Built.{served_words};
-ghost use Rattle.nb_endpoint.specs.Headline.{given, Opens, Acts, ComesTo, SendsAll, Leaves, PrintsAll, Row, IsDamage, IsComplete};
+ghost use Rattle.nb_endpoint.specs.Served.{served_words};
+ghost use Rattle.nb_endpoint.specs.Headline.{given, IsApart, Opens, Acts, ComesTo, SendsAll, Leaves, PrintsAll, Row, IsDamage, IsComplete};
 ghost use Rattle.nb_endpoint.specs.Rows.{Risen, counts};
-ghost use Rattle.nb_endpoint.specs.Sources.{flow};
 ghost use Rattle.nb_hub.specs.Desks.{Started};
 ghost use Rattle.nb_hub.specs.Starting.{IsRead, Told, TellsOne};
 
 use crate::ended::{Ended, perform};
 use crate::job::prepare;
+use crate::printing::Worked;
+use crate::sampling::sample;
 use crate::status::Status;
 use nb_base::{Clock, NoMemory, Sink, Source, Text};
 use nb_cells::Cells;
 use nb_core::{law_drained, law_outcome};
-use nb_words::{Command, Words, read_words};
+use nb_words::{Command, read_words};
 use std::alloc::Global;
 
-/// What the words say, where it is built.
-fn served_words(alloc: Global, words: &[Text]) -> Result<Option<Words>, NoMemory>
-    ensures { IfOk result (λ w. w ≡ served_words words.now) }
+/// Whether a command has nothing to do with the stores.
+fn is_sample(command: Command) -> bool
+    ensures { IsTrue result ↔ (command ≡ Sample) }
 {
-    let Some(said) = read_words(alloc, words)? else {
-        return Ok(None);
-    };
-    match said.command {
-        Command::Run => Ok(Some(said)),
-        Command::Show => Ok(Some(said)),
-        Command::Retry => Ok(Some(said)),
-        Command::Purge => Ok(Some(said)),
-        Command::Sample => Ok(None),
+    match command {
+        Command::Sample => true,
+        _ => false,
     }
 }
 
@@ -59,24 +55,35 @@ pub fn run_alone<S: Source, O: Sink, P: Cells, D: Cells, C: Clock>(
     base: D,
     clock: &mut C,
 ) -> Ended<P, D>
-    ensures opens { IfSome result.history (Opens (given words.now (C.next clock.old) (flow (S.left script.old) (S.left script.new) (S.count script.old) (S.count script.new)) (flow (S.left settings.old) (S.left settings.new) (S.count settings.old) (S.count settings.new)) (flow (S.left input.old) (S.left input.new) (S.count input.old) (S.count input.new)))) }
-    ensures acts { IfSome result.history (Acts (given words.now (C.next clock.old) (flow (S.left script.old) (S.left script.new) (S.count script.old) (S.count script.new)) (flow (S.left settings.old) (S.left settings.new) (S.count settings.old) (S.count settings.new)) (flow (S.left input.old) (S.left input.new) (S.count input.old) (S.count input.new))) result.status) }
-    ensures comes { IfSome result.history (ComesTo (given words.now (C.next clock.old) (flow (S.left script.old) (S.left script.new) (S.count script.old) (S.count script.new)) (flow (S.left settings.old) (S.left settings.new) (S.count settings.old) (S.count settings.new)) (flow (S.left input.old) (S.left input.new) (S.count input.old) (S.count input.new)))) }
-    ensures sends { IfSome result.history (SendsAll (given words.now (C.next clock.old) (flow (S.left script.old) (S.left script.new) (S.count script.old) (S.count script.new)) (flow (S.left settings.old) (S.left settings.new) (S.count settings.old) (S.count settings.new)) (flow (S.left input.old) (S.left input.new) (S.count input.old) (S.count input.new))) result.status) }
-    ensures leaves { (start : Started) → IfSome result.history (λ h. TellsOne D.now D.images D.firm base start.base → TellsOne P.now P.images P.firm post start.post → Leaves D.honest D.now D.images D.firm P.honest P.now P.images P.firm (given words.now (C.next clock.old) (flow (S.left script.old) (S.left script.new) (S.count script.old) (S.count script.new)) (flow (S.left settings.old) (S.left settings.new) (S.count settings.old) (S.count settings.new)) (flow (S.left input.old) (S.left input.new) (S.count input.old) (S.count input.new))) start result.base result.post h) }
+    ensures opens { IfSome result.history (Opens (given S.left S.count C.next words.now clock.old script.old script.new settings.old settings.new input.old input.new)) }
+    ensures acts { IfSome result.history (Acts (given S.left S.count C.next words.now clock.old script.old script.new settings.old settings.new input.old input.new) result.status) }
+    ensures comes { IfSome result.history (ComesTo (given S.left S.count C.next words.now clock.old script.old script.new settings.old settings.new input.old input.new)) }
+    ensures sends { IfSome result.history (SendsAll (given S.left S.count C.next words.now clock.old script.old script.new settings.old settings.new input.old input.new) result.status) }
+    ensures leaves { (start : Started) → IfSome result.history (λ h. TellsOne D.now D.images D.firm base start.base → TellsOne P.now P.images P.firm post start.post → Leaves D.honest D.now D.images D.firm P.honest P.now P.images P.firm (given S.left S.count C.next words.now clock.old script.old script.new settings.old settings.new input.old input.new) start result.base result.post h) }
+    ensures apart { served_words words.now ≡ None → IsApart script.old script.new settings.old settings.new input.old input.new base result.base post result.post }
     ensures base_kept { result.history ≡ None → IsRead D.honest D.now D.images D.firm D.count base result.base }
     ensures post_kept { result.history ≡ None → IsRead P.honest P.now P.images P.firm P.count post result.post }
-    ensures prints { PrintsAll (given words.now (C.next clock.old) (flow (S.left script.old) (S.left script.new) (S.count script.old) (S.count script.new)) (flow (S.left settings.old) (S.left settings.new) (S.count settings.old) (S.count settings.new)) (flow (S.left input.old) (S.left input.new) (S.count input.old) (S.count input.new))) result.status result.history result.printed (O.held out.old) (O.held out.new) }
-    ensures row { Row (given words.now (C.next clock.old) (flow (S.left script.old) (S.left script.new) (S.count script.old) (S.count script.new)) (flow (S.left settings.old) (S.left settings.new) (S.count settings.old) (S.count settings.new)) (flow (S.left input.old) (S.left input.new) (S.count input.old) (S.count input.new))) result.status result.history }
+    ensures prints { PrintsAll (given S.left S.count C.next words.now clock.old script.old script.new settings.old settings.new input.old input.new) result.status result.history result.printed (O.held out.old) (O.held out.new) }
+    ensures row { Row (given S.left S.count C.next words.now clock.old script.old script.new settings.old settings.new input.old input.new) result.status result.history }
     ensures risen { Risen result.status (counts (D.count base) (D.count result.base) (P.count post) (P.count result.post) (O.count out.old) (O.count out.new)) }
-    ensures damage { (start : Started) → result.history ≡ None → Told D.honest D.now D.firm base result.base start.base → Told P.honest P.now P.firm post result.post start.post → IsDamage (given words.now (C.next clock.old) (flow (S.left script.old) (S.left script.new) (S.count script.old) (S.count script.new)) (flow (S.left settings.old) (S.left settings.new) (S.count settings.old) (S.count settings.new)) (flow (S.left input.old) (S.left input.new) (S.count input.old) (S.count input.new))) start.base start.post result.status }
-    ensures complete { (start : Started) → Told D.honest D.now D.firm base result.base start.base → Told P.honest P.now P.firm post result.post start.post → IsComplete (given words.now (C.next clock.old) (flow (S.left script.old) (S.left script.new) (S.count script.old) (S.count script.new)) (flow (S.left settings.old) (S.left settings.new) (S.count settings.old) (S.count settings.new)) (flow (S.left input.old) (S.left input.new) (S.count input.old) (S.count input.new))) result.status result.history (counts (D.count base) (D.count result.base) (P.count post) (P.count result.post) (O.count out.old) (O.count out.new)) start.base start.post }
+    ensures damage { (start : Started) → result.history ≡ None → Told D.honest D.now D.firm base result.base start.base → Told P.honest P.now P.firm post result.post start.post → IsDamage (given S.left S.count C.next words.now clock.old script.old script.new settings.old settings.new input.old input.new) start.base start.post result.status }
+    ensures complete { (start : Started) → Told D.honest D.now D.firm base result.base start.base → Told P.honest P.now P.firm post result.post start.post → IsComplete (given S.left S.count C.next words.now clock.old script.old script.new settings.old settings.new input.old input.new) result.status result.history (counts (D.count base) (D.count result.base) (P.count post) (P.count result.post) (O.count out.old) (O.count out.new)) start.base start.post }
 {
-    let said = match served_words(alloc, words) {
+    let said = match read_words(alloc, words) {
         Ok(Some(said)) => said,
         Ok(None) => return refused(Status::Words, post, base),
         Err(NoMemory) => return refused(Status::NoMemory, post, base),
     };
+    if is_sample(said.command) {
+        let Worked { status, printed } = sample(alloc, said.seed, said.count, out);
+        return Ended {
+            status,
+            post,
+            base,
+            history: None,
+            printed,
+        };
+    }
     match prepare(alloc, said, script, settings, input, clock) {
         Ok(job) => {
             law_outcome();

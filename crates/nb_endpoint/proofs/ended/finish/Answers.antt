@@ -40,9 +40,8 @@ returns-clause-left g c = λ a start new stands.
     let p = past_of (g.M.Handling.meaning c.args.hub.handlers) c.args.hub.course in
     let q = past_of (g.M.Handling.meaning c.work-done.new.hub.handlers) c.work-done.new.hub.course in
     let left = stores_left a c.args.said c.args.task.now p q c.close-post.result.history c.work-done.result new c.work-done.ensures.works c.close-post.ensures.legal c.close-post.ensures.history
-        g.D.Cells.honest g.D.Cells.now g.D.Cells.images g.D.Cells.firm g.P.Cells.honest g.P.Cells.now g.P.Cells.images g.P.Cells.firm
-        c.work-done.new.hub.base c.work-done.new.hub.post start (c.work-done.ensures.stands start stands) in
-    (
+    g.D.Cells.honest g.D.Cells.now g.D.Cells.images g.D.Cells.firm g.P.Cells.honest g.P.Cells.now g.P.Cells.images g.P.Cells.firm
+    c.work-done.new.hub.base c.work-done.new.hub.post start (c.work-done.ensures.stands start stands) in (
       subst (λ (base : g.row.D.Denot). BaseLeft g.D.Cells.honest g.D.Cells.now g.D.Cells.images g.D.Cells.firm start.base a c.close-post.result.history base) (sym c.close-post.ensures.base) left.0,
       subst (λ (post : g.row.P.Denot). PostLeft g.P.Cells.honest g.P.Cells.now g.P.Cells.images g.P.Cells.firm start.post a c.close-post.result.history post) (sym c.close-post.ensures.post) left.1,
     )

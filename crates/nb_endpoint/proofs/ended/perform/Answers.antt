@@ -12,32 +12,32 @@ pub returns-in-Ok-clause-begins : goal.returns-in-Ok-clause-begins
 returns-in-Ok-clause-begins g c =
     let k = c.in-Ok.hub.course in
     let new = started_new c.args.job (record { messages = c.args.job.messages; moment = c.args.job.moment; until = c.plus.result }) (meaning_of (script c.in-Ok.hub.handlers.handlers.now.checked)) k
-        k.opening.tables k.opening.post (g.D.Cells.count c.in-Ok.hub.base) (g.P.Cells.count c.in-Ok.hub.post)
-        (ap (λ (l : Lent). meaning_of (script l.handlers.now.checked)) c.in-Ok.ensures.handlers) c.in-Ok.ensures.course refl c.plus.ensures c.requires.some c.requires.built in
+    k.opening.tables k.opening.post (g.D.Cells.count c.in-Ok.hub.base) (g.P.Cells.count c.in-Ok.hub.post)
+    (ap (λ (l : Lent). meaning_of (script l.handlers.now.checked)) c.in-Ok.ensures.handlers) c.in-Ok.ensures.course refl c.plus.ensures c.requires.some c.requires.built in
     (c.finish-worked.ensures.finished (asked_by c.args.job) new).begins
 
 pub returns-in-Ok-clause-follows : goal.returns-in-Ok-clause-follows
 returns-in-Ok-clause-follows g c =
     let k = c.in-Ok.hub.course in
     let new = started_new c.args.job (record { messages = c.args.job.messages; moment = c.args.job.moment; until = c.plus.result }) (meaning_of (script c.in-Ok.hub.handlers.handlers.now.checked)) k
-        k.opening.tables k.opening.post (g.D.Cells.count c.in-Ok.hub.base) (g.P.Cells.count c.in-Ok.hub.post)
-        (ap (λ (l : Lent). meaning_of (script l.handlers.now.checked)) c.in-Ok.ensures.handlers) c.in-Ok.ensures.course refl c.plus.ensures c.requires.some c.requires.built in
+    k.opening.tables k.opening.post (g.D.Cells.count c.in-Ok.hub.base) (g.P.Cells.count c.in-Ok.hub.post)
+    (ap (λ (l : Lent). meaning_of (script l.handlers.now.checked)) c.in-Ok.ensures.handlers) c.in-Ok.ensures.course refl c.plus.ensures c.requires.some c.requires.built in
     (c.finish-worked.ensures.finished (asked_by c.args.job) new).follows
 
 pub returns-in-Ok-clause-shows : goal.returns-in-Ok-clause-shows
 returns-in-Ok-clause-shows g c =
     let k = c.in-Ok.hub.course in
     let new = started_new c.args.job (record { messages = c.args.job.messages; moment = c.args.job.moment; until = c.plus.result }) (meaning_of (script c.in-Ok.hub.handlers.handlers.now.checked)) k
-        k.opening.tables k.opening.post (g.D.Cells.count c.in-Ok.hub.base) (g.P.Cells.count c.in-Ok.hub.post)
-        (ap (λ (l : Lent). meaning_of (script l.handlers.now.checked)) c.in-Ok.ensures.handlers) c.in-Ok.ensures.course refl c.plus.ensures c.requires.some c.requires.built in
+    k.opening.tables k.opening.post (g.D.Cells.count c.in-Ok.hub.base) (g.P.Cells.count c.in-Ok.hub.post)
+    (ap (λ (l : Lent). meaning_of (script l.handlers.now.checked)) c.in-Ok.ensures.handlers) c.in-Ok.ensures.course refl c.plus.ensures c.requires.some c.requires.built in
     (c.finish-worked.ensures.finished (asked_by c.args.job) new).shows
 
 pub returns-in-Ok-clause-prints : goal.returns-in-Ok-clause-prints
 returns-in-Ok-clause-prints g c =
     let k = c.in-Ok.hub.course in
     let new = started_new c.args.job (record { messages = c.args.job.messages; moment = c.args.job.moment; until = c.plus.result }) (meaning_of (script c.in-Ok.hub.handlers.handlers.now.checked)) k
-        k.opening.tables k.opening.post (g.D.Cells.count c.in-Ok.hub.base) (g.P.Cells.count c.in-Ok.hub.post)
-        (ap (λ (l : Lent). meaning_of (script l.handlers.now.checked)) c.in-Ok.ensures.handlers) c.in-Ok.ensures.course refl c.plus.ensures c.requires.some c.requires.built in
+    k.opening.tables k.opening.post (g.D.Cells.count c.in-Ok.hub.base) (g.P.Cells.count c.in-Ok.hub.post)
+    (ap (λ (l : Lent). meaning_of (script l.handlers.now.checked)) c.in-Ok.ensures.handlers) c.in-Ok.ensures.course refl c.plus.ensures c.requires.some c.requires.built in
     (c.finish-worked.ensures.finished (asked_by c.args.job) new).prints
 
 pub returns-clause-base_damage : goal.returns-clause-base_damage

@@ -9,6 +9,6 @@ pub returns-in-Ok-clause-handlers : goal.returns-in-Ok-clause-handlers
 returns-in-Ok-clause-handlers g c =
     ap (λ (f : Fixed). f.meaning)
     (does_fixed c.in-Ok.chore c.args.task.now.messages c.args.task.now.until c.serve.result
-        (seen (past_of (g.M.Handling.meaning c.args.hub.now.handlers) c.args.hub.now.course))
-        (seen (past_of (g.M.Handling.meaning c.serve.new.desk.handlers) c.serve.new.desk.course))
-        c.serve.ensures.does)
+    (seen (past_of (g.M.Handling.meaning c.args.hub.now.handlers) c.args.hub.now.course))
+    (seen (past_of (g.M.Handling.meaning c.serve.new.desk.handlers) c.serve.new.desk.course))
+    c.serve.ensures.does)
