@@ -8,6 +8,7 @@ import subprocess
 import sys
 import tempfile
 import time
+from datetime import datetime, timezone
 
 PROGRAM, DATA = sys.argv[1], sys.argv[2]
 KILLS = 100
@@ -39,6 +40,20 @@ def call(folder, *words, text=""):
     return subprocess.run([PROGRAM, *words], cwd=folder, input=text, text=True, capture_output=True)
 
 
+def run(folder, moment, *words, text=""):
+    return call(folder, "run", "--at", str(moment), *words, text=text).stdout
+
+
+def report(moment, commits, following, *lines):
+    """The report at a moment, of so many commits, whose next entry has this number."""
+    text = datetime.fromtimestamp(moment, timezone.utc).strftime("%Y-%m-%d %H:%M:%S:000000 Z")
+    return "\n".join([f"moment {text}", f"commits {commits}", f"next {following}", *lines, ""])
+
+
+def credit(amount):
+    return line("Credit", "c1", {"account": "ann", "amount": amount})
+
+
 def stands(report):
     """The rows without the commits that wrote them, the totals of the sagas, and the ids of the records that are sent."""
     parts = [part.split(" ") for part in report.split("\n")]
@@ -66,6 +81,76 @@ def killed(parent):
         after = call(folder, "run", "--at", "0", text=LINES)
         yield f"run {k} is finished by the next one", after.returncode == 0 and stands(after.stdout) == wanted
     print(f"{cut} of {KILLS} runs were killed before their end")
+
+
+def repeated(parent):
+    """A message that comes twice is handled once, in one run and in a later one."""
+    folder = fresh(parent, "repeated")
+    stood = ['row "ann" 1 5', 'outbox "c1" 1 0 sent']
+    yield "two of one id are handled once", run(folder, 0, text=credit(5) * 2) == report(0, 1, 3, *stood)
+    yield "the files show it when they are opened again", call(folder, "show", "--at", "0").stdout == report(0, 1, 3, *stood)
+    yield "a later one of that id changes nothing", run(folder, 0, text=credit(7)) == report(0, 1, 4, *stood)
+    folder = fresh(parent, "other amount")
+    yield "the first of one id counts", run(folder, 0, text=credit(5) + credit(7)) == report(0, 1, 3, *stood)
+
+
+def placed(parent):
+    """An order is shown as its run reported it, and so is its timeout an hour later."""
+    folder = fresh(parent, "placed")
+    order = line("Shop.PlaceOrder", "p1", {"orderId": "A", "amount": 1})
+    queued = r'''queue "Billing" 2 "Sales/1/1" "Charge" 0 "{\"amount\":1,\"orderId\":\"A\"}"'''
+    waiting = r'''delayed 3600 3 "Sales" "Sales/1/2" "OrderExpired" 0 "{\"orderId\":\"A\"}"'''
+    saga = 'saga Order "A" "Sales/1/1" 1 "" "p1" total=1 paid=false'
+    wanted = report(0, 1, 4, saga, 'outbox "p1" 1 0 sent', queued, waiting)
+    yield "an order is placed", run(folder, 0, text=order) == wanted
+    yield "it is shown so", call(folder, "show", "--at", "0").stdout == wanted
+    wanted = report(3600, 2, 4, 'row "expired" 2 1', 'outbox "Sales/1/2" 2 3600 sent', 'outbox "p1" 1 0 sent', queued)
+    yield "its timeout comes in a later run", run(folder, 0, "--horizon", "3600") == wanted
+    yield "that is shown so too", call(folder, "show", "--at", "3600").stdout == wanted
+
+
+def mend(folder):
+    """The script's handler that refuses its message counts it instead."""
+    path = os.path.join(folder, "endpoint.script")
+    with open(path) as file:
+        script = file.read()
+    with open(path, "w") as file:
+        file.write(script.replace('reject Refused "never";', 'add row("no") by 1;'))
+
+
+def mended(parent):
+    """What failed goes back by retry, fails again, and is handled once the script is mended; each in a run of its own."""
+    folder = fresh(parent, "mended")
+    why = 'fault "Sales" "Refused" "never" "1970-01-01 00:00:00:000000 Z" "Sales"'
+    failed = report(0, 0, 3, 'queue "error" 2 "n1" "No" 0 "{}"', why)
+    yield "a message is refused", run(folder, 0, text=line("No", "n1", {})) == failed
+    returned = report(0, 0, 4, 'queue "Sales" 3 "n1" "No" 0 "{}"')
+    yield "it is returned", call(folder, "retry", "--at", "0").stdout == returned
+    failed = report(0, 0, 5, 'queue "error" 4 "n1" "No" 0 "{}"', why)
+    yield "it is refused again", run(folder, 0) == failed
+    mend(folder)
+    yield "a mended script alone changes nothing", run(folder, 0) == failed
+    returned = report(0, 0, 6, 'queue "Sales" 5 "n1" "No" 0 "{}"')
+    yield "it is returned to the mended script", call(folder, "retry", "--at", "0").stdout == returned
+    yield "it isn't returned twice", call(folder, "retry", "--at", "0").stdout == returned
+    stood = ['row "no" 1 1', 'outbox "n1" 1 0 sent']
+    yield "it is handled", run(folder, 0) == report(0, 1, 6, *stood)
+    yield "nothing is left to return", call(folder, "retry", "--at", "0").stdout == report(0, 1, 6, *stood)
+
+
+def purged(parent):
+    """A record goes when its time is over, and not before; then its id is new again."""
+    folder = fresh(parent, "purged")
+    kept = 604800
+    row, record = 'row "ann" 1 5', 'outbox "c1" 1 0 sent'
+    run(folder, 0, text=credit(5) * 2)
+    early = call(folder, "purge", "--at", str(kept - 1)).stdout
+    yield "a record stays until its time is over", early == report(kept - 1, 1, 3, row, record)
+    yield "its id is still known", run(folder, kept - 1, text=credit(5)) == report(kept - 1, 1, 4, row, record)
+    yield "then it goes", call(folder, "purge", "--at", str(kept)).stdout == report(kept, 1, 4, row)
+    wanted = report(kept, 2, 5, 'row "ann" 2 10', f'outbox "c1" 2 {kept} sent')
+    yield "its id is new again", run(folder, kept, text=credit(5)) == wanted
+    yield "that is shown", call(folder, "show", "--at", str(kept)).stdout == wanted
 
 
 def sqlite(folder, store, statement):
@@ -104,7 +189,7 @@ def refused(parent):
 
 
 def main():
-    checks = [killed, refused]
+    checks = [repeated, placed, mended, purged, killed, refused]
     if shutil.which("sqlite3"):
         checks.append(read_and_written)
     else:
