@@ -3,6 +3,7 @@
 import json
 import os
 import random
+import resource
 import shutil
 import subprocess
 import sys
@@ -153,6 +154,56 @@ def purged(parent):
     yield "that is shown", call(folder, "show", "--at", str(kept)).stdout == wanted
 
 
+STOPPED = line("Shop.PlaceOrder", "p1", {"orderId": "A", "amount": 1}) + line("No", "n1", {}) + credit(5) * 2
+STEP = 8192
+
+
+def cut_short(folder, most):
+    """A run none of whose files may grow beyond so many bytes, as on a disk that is full by then."""
+    limit = lambda: resource.setrlimit(resource.RLIMIT_FSIZE, (most, most))
+    words = [PROGRAM, "run", "--at", "0"]
+    # the write is refused, where the signal would end the program
+    done = subprocess.run(words, cwd=folder, input=STOPPED, text=True, capture_output=True, preexec_fn=limit, restore_signals=False)
+    return done.returncode
+
+
+def grown(parent):
+    """A folder whose base is longer than what a run makes of its post."""
+    folder = fresh(parent, "grown")
+    run(folder, 0, text="".join(line("Credit", f"g{i}", {"account": f"g{i}", "amount": i}) for i in range(20)))
+    for file in ("post.db", "post.db-wal"):
+        os.remove(os.path.join(folder, file))
+    return folder
+
+
+def full_at(parent, begun, status, name):
+    """Runs that end at a full disk, a little later each; the next run, with the same lines again, comes to what an undisturbed one does."""
+    folder = os.path.join(parent, f"enough {name}")
+    shutil.copytree(begun, folder)
+    wanted = stands(run(folder, 0, text=STOPPED))
+    most = max(os.path.getsize(os.path.join(begun, file)) for file in os.listdir(begun))
+    end, cut = status, 0
+    while end != 0:
+        most += STEP
+        folder = os.path.join(parent, f"{name} {most}")
+        shutil.copytree(begun, folder)
+        end = cut_short(folder, most)
+        yield f"the {name} fails where the disk is full, or nothing does", end in (0, status)
+        after = call(folder, "run", "--at", "0", text=STOPPED)
+        yield f"a run whose {name} failed is finished by the next one", after.returncode == 0 and stands(after.stdout) == wanted
+        shutil.rmtree(folder)
+        cut += end == status
+        if end not in (0, status):
+            break
+    print(f"{cut} runs ended with a {name} that failed")
+
+
+def full(parent):
+    """A disk that is full at each moment of a run, for the post and for the base."""
+    yield from full_at(parent, fresh(parent, "new"), 9, "post")
+    yield from full_at(parent, grown(parent), 8, "base")
+
+
 def sqlite(folder, store, statement):
     done = subprocess.run(["sqlite3", store, statement], cwd=folder, text=True, capture_output=True)
     return done.stdout.strip()
@@ -189,7 +240,7 @@ def refused(parent):
 
 
 def main():
-    checks = [repeated, placed, mended, purged, killed, refused]
+    checks = [repeated, placed, mended, purged, full, killed, refused]
     if shutil.which("sqlite3"):
         checks.append(read_and_written)
     else:
