@@ -2,6 +2,7 @@
 
 import json
 import sys
+from collections import deque
 
 ACCOUNT, AMOUNT = "account", "amount"
 
@@ -14,8 +15,7 @@ def handle(queue):
     """Takes the messages one after the other, each id once, and adds what it says to its row."""
     rows, outbox, commits = {}, {}, 0
     while queue:
-        number = next(iter(queue))
-        envelope = queue[number]
+        envelope = queue[0]
         identity = envelope["headers"]["NServiceBus.MessageId"]
         if identity not in outbox:
             body = json.loads(envelope["body"])
@@ -26,12 +26,12 @@ def handle(queue):
         commit, at, sent = outbox[identity]
         if not sent:
             outbox[identity] = (commit, at, True)
-        del queue[number]
+        queue.popleft()
     return rows, outbox, commits
 
 
 def main():
-    queue = {number: json.loads(line) for number, line in enumerate(sys.stdin.buffer, 1)}
+    queue = deque(json.loads(line) for line in sys.stdin.buffer)
     following = len(queue) + 1
     rows, outbox, commits = handle(queue)
     lines = ["moment 1970-01-01 00:00:00:000000 Z", f"commits {commits}", f"next {following}"]
