@@ -20,8 +20,16 @@ def line(i):
     return json.dumps({"headers": headers, "body": body}, separators=(",", ":")) + "\n"
 
 
+class Run:
+    """What a command took: seconds, seconds of a processor, and the most memory that it had at once, in MB."""
+
+    def __init__(self, spent, used):
+        self.spent = spent
+        self.busy = used.ru_utime + used.ru_stime
+        self.memory = used.ru_maxrss / 1024
+
+
 def timed(words, folder, text):
-    """The seconds that a command took, and the most memory that it had at once, in MB."""
     with tempfile.TemporaryFile() as given:
         given.write(text.encode())
         given.seek(0)
@@ -31,7 +39,7 @@ def timed(words, folder, text):
         spent = time.perf_counter() - begin
     if status != 0:
         sys.exit(f"bench: {words[0]} ended with the status {os.waitstatus_to_exitcode(status)}")
-    return spent, used.ru_maxrss / 1024
+    return Run(spent, used)
 
 
 def cells(folder, store):
@@ -43,32 +51,32 @@ def cells(folder, store):
 
 
 def once(parent, count, text):
-    """Seconds and memory of the program, the seconds of SQLite, and what the program's files hold in MB."""
+    """A run of the program, one of SQLite, and what the program's files hold in MB."""
     with tempfile.TemporaryDirectory(dir=parent) as own, tempfile.TemporaryDirectory(dir=parent) as other:
         for file in ("endpoint.script", "endpoint.toml"):
             shutil.copy(os.path.join(DATA, file), own)
-        spent, memory = timed([PROGRAM, "run", "--at", "0"], own, text)
-        by_sqlite, _ = timed([SQL, other, str(count)], other, "")
+        program = timed([PROGRAM, "run", "--at", "0"], own, text)
+        by_sqlite = timed([SQL, other, str(count)], other, "")
         for store in ("post.db", "base.db"):
             if cells(own, store) != cells(other, store):
                 sys.exit(f"bench: the cells of {store} aren't the same")
         held = sum(entry.stat().st_size for entry in os.scandir(own)) / 2**20
-    return spent, memory, by_sqlite, held
+    return program, by_sqlite, held
+
+
+def least(name, runs, of):
+    """The least figures of the program and of SQLite, and their ratio."""
+    program, by_sqlite = min(of(run[0]) for run in runs), min(of(run[1]) for run in runs)
+    return f"{name} {program:.2f} s, SQLite {by_sqlite:.2f} s, ratio {program / by_sqlite:.2f}"
 
 
 def compare(parent, count):
-    """The least times of some runs, one after the other by turns, since others use the disk too."""
+    """The least of some runs, the two by turns, since others use the machine too."""
     text = "".join(line(i) for i in range(1, count + 1))
     runs = [once(parent, count, text) for _ in range(TIMES)]
-    spent = min(run[0] for run in runs)
-    memory = max(run[1] for run in runs)
-    by_sqlite = min(run[2] for run in runs)
-    held = max(run[3] for run in runs)
-    print(
-        f"  {count:,} lines: {spent:.2f} s, SQLite {by_sqlite:.2f} s, ratio {spent / by_sqlite:.2f}; "
-        f"at most {memory:.0f} MB of memory, {held:.1f} MB of files",
-        flush=True,
-    )
+    print(f"  {count:,} lines: {least('all', runs, lambda run: run.spent)}; {least('processor', runs, lambda run: run.busy)};")
+    memory, held = max(run[0].memory for run in runs), max(run[2] for run in runs)
+    print(f"    at most {memory:.0f} MB of memory, {held:.1f} MB of files", flush=True)
 
 
 def main():
