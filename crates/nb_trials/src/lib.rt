@@ -36,6 +36,10 @@ mod policy_tests;
 #[cfg(test)]
 mod refusal_tests;
 #[cfg(test)]
+mod replay_tests;
+#[cfg(test)]
+mod replays;
+#[cfg(test)]
 mod retry_tests;
 #[cfg(test)]
 mod revision_tests;
