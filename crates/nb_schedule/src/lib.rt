@@ -18,3 +18,8 @@ pub use opening::{Refused, Terms, Unopened};
 pub use slip::Slip;
 pub use stage::Stage;
 pub use texts::{SCRIPT, SETTINGS, Unread, handlers_of};
+
+#[cfg(test)]
+mod acting;
+#[cfg(test)]
+mod pair_tests;
