@@ -354,16 +354,26 @@ def plain(kind, body):
     return best, (len(writes), len(intents))
 
 
-def program(kind, body, times):
-    """The least time of five runs, and the number of changes and messages."""
+def run(kind, body, times):
+    """The least time of five runs, and the lines of the last one."""
     best = None
     for _ in range(5):
         begin = time.perf_counter()
         done = subprocess.run([PROGRAM, kind, body, str(times)], input=SCRIPT.encode(), stdout=subprocess.PIPE, check=True)
         spent = time.perf_counter() - begin
         best = spent if best is None else min(best, spent)
-    lines = done.stdout.decode().splitlines()
+    return best, done.stdout.decode().splitlines()
+
+
+def program(kind, body, times):
+    """The least time of five runs, and the number of changes and messages."""
+    best, lines = run(kind, body, times)
     return best, (int(lines[0].split()[1]), len(lines) - 1)
+
+
+def reading(body):
+    """The time in which the program reads the body as JSON, which no evaluation can pass."""
+    return run("-", body, COUNT)[0] - run("-", body, 0)[0]
 
 
 def main():
@@ -374,7 +384,11 @@ def main():
         if made != plainly:
             sys.exit(f"{kind}: {made} and {plainly} are made")
         ours = whole - base
-        print(f"{kind}: {ours * 1e6 / COUNT:.2f} us an evaluation, plain {theirs * 1e6 / COUNT:.2f} us, ratio {theirs / ours:.1f}")
+        read = reading(body)
+        print(
+            f"{kind}: {ours * 1e6 / COUNT:.2f} us an evaluation, {read * 1e6 / COUNT:.2f} us of it the body's JSON,"
+            f" plain {theirs * 1e6 / COUNT:.2f} us, ratio {theirs / ours:.1f}"
+        )
 
 
 main()

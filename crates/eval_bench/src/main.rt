@@ -1,5 +1,6 @@
 //! Evaluates a message where nothing is stored, to be timed: `eval_bench TYPE BODY TIMES` evaluates it TIMES times and once
-//! more by the script on standard input, and prints what the last evaluation made. The script breaks no rule.
+//! more by the script on standard input, and prints what the last evaluation made. The script breaks no rule. With `-` in
+//! the place of the type the body alone is read TIMES times, as JSON and no more.
 #![tactic(auto)]
 
 use nb_base::{Envelope, Fault, Intent, Items, Moment, NoMemory, Outcome, Plan, Text, Verdict};
@@ -7,6 +8,7 @@ use nb_check::{Checked, check};
 use nb_eval::evaluate;
 use nb_headers::names::ENCLOSED_MESSAGE_TYPES;
 use nb_script::parse;
+use serde_json::Value as Json;
 use std::alloc::Global;
 use std::process::ExitCode;
 use std::{env, io};
@@ -62,6 +64,14 @@ fn evaluated(alloc: Global, c: &Checked, e: &Envelope, times: u32) -> Result<Ver
     Ok(last.verdict)
 }
 
+/// Reads a body as JSON so many times.
+fn read(alloc: Global, body: &str, times: u32) -> Result<(), NoMemory> {
+    for _ in 0..times {
+        let _value = Json::from_slice(alloc, body.as_bytes()).map_err(|_| NoMemory)?;
+    }
+    Ok(())
+}
+
 /// The verdict of the script on the message, after so many times more.
 fn asked_verdict(alloc: Global, text: &str, words: &Words) -> Result<Verdict, NoMemory> {
     let c = checked(alloc, text)?;
@@ -100,6 +110,12 @@ fn print_verdict(rt: &HostRuntime, verdict: &Verdict) -> io::Result<()> {
 /// Evaluates, and prints what was made.
 fn answer(rt: &HostRuntime, words: &Words) -> io::Result<ExitCode> {
     let alloc = rt.alloc();
+    if words.kind.as_str() == "-" {
+        return match read(alloc, words.body.as_str(), words.times) {
+            Ok(()) => Ok(ExitCode::SUCCESS),
+            Err(NoMemory) => Ok(ExitCode::from(10)),
+        };
+    }
     let text = io::read_to_string(alloc, rt.stdin())?;
     match asked_verdict(alloc, text.as_str(), words) {
         Err(NoMemory) => Ok(ExitCode::from(10)),

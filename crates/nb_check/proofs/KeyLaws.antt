@@ -1,5 +1,5 @@
 -- The read set has each key once.
-use Rattle.std.proofs.Common.{◌≡◌, List, [], ◌∷◌, ◌++◌, true, false, refl, cond, Option, Some, None}
+use Rattle.std.proofs.Common.{◌≡◌, ◌<◌, List, [], ◌∷◌, ◌++◌, length, true, false, refl, cond, Option, Some, None, arith}
 use Rattle.std.specs.List.{AllByRecursion, IsDistinct}
 use Rattle.nb_base.specs.Messages.{Message}
 use Rattle.nb_base.specs.declared.value.Field.{Field}
@@ -52,3 +52,9 @@ keys_by-distinct items types e (Some m) = keys_for-distinct items e m (fields_fo
 
 pub read_set-distinct : (items : List ItemTerm) (types : List MessageType) (e : Message) → IsDistinct same_key (read_set items types e)
 read_set-distinct items types e = keys_by-distinct items types e (incoming (names_of types) e)
+
+-- one key has no other like it
+pub one_key : (ks : List Key) → length ks < 2 → with_keys [] ks ≡ ks
+one_key [] h = refl
+one_key (k ∷ []) h = refl
+one_key (k ∷ l ∷ ks) h = absurd (omega arith)

@@ -1,9 +1,9 @@
 pub mod FirstLaws
 pub mod KeyLaws
-pub mod MetLaws
 pub mod PlaceLaws
 pub mod SendLaws
 pub mod SentLaws
 pub mod SightLaws
+pub mod SiteLaws
+pub mod Steps
 pub mod TableLaws
-pub mod TypeTexts

@@ -21,7 +21,7 @@ nothing_left [] (suc i) h = refl
 nothing_left (x ∷ xs) zero h = absurd (omega arith)
 nothing_left (x ∷ xs) (suc i) h = nothing_left xs i (omega arith)
 
-same_name : (q k : List ℕ) → eq_by_cmp name_cmp q k ≡ bytes_eq k q
+pub same_name : (q k : List ℕ) → eq_by_cmp name_cmp q k ≡ bytes_eq k q
 same_name q k = is_eq-slice_cmp q k ∙ nat_list_eq_equiv.symm q k
 
 pub inserted : {V : Type 0} (m : ByName V) (k : List ℕ) (v : V) (q : List ℕ) → map.get (map.insert m k v) q ≡ cond (bytes_eq k q) (Some v) (map.get m q)

@@ -3,6 +3,7 @@ use Rattle.std.specs.Prelude.{◌≡◌, ℕ, List, [], Option, Some, None, slic
 use Rattle.std.specs.List.{AllByRecursion}
 use Rattle.nb_base.specs.Meanings.{IsAmong}
 use Rattle.nb_base.specs.Messages.{Message}
+use Rattle.nb_base.specs.Orders.{ByName}
 use Rattle.nb_base.specs.declared.value.Field.{Field}
 use Rattle.nb_base.specs.declared.value.Key.{Key}
 use Rattle.nb_script.specs.Grammar.{ItemTerm}
@@ -12,16 +13,20 @@ use Rattle.nb_check.specs.Keys.{read_set}
 use Rattle.nb_check.specs.Meets.{met_numbers}
 use Rattle.nb_check.specs.Rules.{script_faults}
 use Rattle.nb_check.specs.Sends.{sends}
+use Rattle.nb_check.specs.Sites.{sites_from, AreNumbers}
+use Rattle.nb_check.specs.declared.sites.Site.{Site}
 use Rattle.nb_check.specs.declared.types.MessageType.{MessageType}
 use Rattle.nb_check.specs.declared.types.SagaType.{SagaType}
 
 -- a script that breaks no rule, with what it declares
-pub record IsChecked (items : List ItemTerm) (messages_of_it : List MessageType) (names_of_it : List (List ℕ)) (sagas_of_it : List SagaType) (sends_of_it : List (List ℕ)) : Type 0 where
+pub record IsChecked (items : List ItemTerm) (messages_of_it : List MessageType) (names_of_it : List (List ℕ)) (sagas_of_it : List SagaType) (sends_of_it : List (List ℕ)) (sites_of_it : List Site) (numbers_of_it : ByName (List ℕ)) : Type 0 where
   pub rules : script_faults items ≡ []
   pub types : messages_of_it ≡ messages items
   pub names : names_of_it ≡ names_of messages_of_it
   pub kinds : sagas_of_it ≡ sagas items
   pub sent : sends_of_it ≡ sends items
+  pub sites : sites_of_it ≡ sites_from 0 items
+  pub numbers : AreNumbers numbers_of_it sites_of_it
 
 -- the names of the declared messages
 abbrev pub declared_names : List ItemTerm → List (List ℕ)

@@ -11,5 +11,6 @@ pub mod Meets
 pub mod Places
 pub mod Rules
 pub mod Sends
+pub mod Sites
 pub mod Statements
 pub mod Tables

@@ -1,5 +1,5 @@
 //! A script that breaks no rule, which contracts see as its items.
-ghost use Rattle.std.specs.Prelude.{◌≡◌, ◌<◌, [], true, Some, is_some, length, IfOk, IfErr};
+ghost use Rattle.std.specs.Prelude.{◌≡◌, [], true, Some, is_some, slice_get, option_copied, IfOk, IfErr};
 ghost use Rattle.nb_script.specs.Scripts.{rows_of, items_of};
 ghost use Rattle.nb_script.specs.Tree.{script};
 ghost use Rattle.nb_check.specs.Bodies.{Decodes};
@@ -9,6 +9,9 @@ ghost use Rattle.nb_check.specs.Keys.{same_key};
 ghost use Rattle.nb_check.specs.Breaches as breaches;
 ghost use Rattle.nb_check.specs.Rules.{script_faults};
 ghost use Rattle.nb_check.specs.Sends.{sends};
+ghost use Rattle.nb_check.specs.Blocks.{blocks};
+ghost use Rattle.nb_check.specs.Meets.{incoming};
+ghost use Rattle.nb_check.specs.Sites.{block_at, sites_from, numbers_in};
 ghost use Rattle.std.specs.List.{IsDistinct};
 ghost use Rattle.nb_check.specs.Checks.{declared_names, body_fields, blocks_met, keys_read, AreDeclared};
 ghost use Rattle.nb_check.specs.Faults.{IsCheckFault};
@@ -17,13 +20,14 @@ use crate::bodies::{BodyFault, decoded};
 use crate::breach::{Breach, first_of};
 use crate::fault::CheckFault;
 use crate::fits::{fits_type, lifted, saga_named};
+use crate::incoming::Incoming;
 use crate::key_set::read_set;
-use crate::met::{Blocks, met_numbers};
 use crate::rules::script_faults;
 use crate::sends::sends;
+use crate::sites::{Blocks, Site, numbers_by_name, sites};
 use crate::tables::MessageTable;
 use crate::types::{MessageType, SagaType, messages, names_of, sagas};
-use nb_base::{Envelope, Fields, Items, Keys, Names, NoMemory, SagaRow, Text};
+use nb_base::{ByName, Envelope, Fields, Items, Keys, Names, NoMemory, SagaRow, Text};
 use nb_script::Script;
 use nb_script::item::Item;
 use std::alloc::Global;
@@ -37,6 +41,8 @@ pub struct Checked {
     names: Names,
     kinds: Items<SagaType>,
     sends: Names,
+    sites: Items<Site>,
+    numbers: ByName<Blocks>,
 }
 
 impl Model for Checked {
@@ -53,7 +59,7 @@ impl Model for Checked {
 
     ghost view = { λ c. rows_of c.script };
 
-    ghost invariant = { λ c. IsChecked (items_of c.script) c.types c.names c.kinds c.sends };
+    ghost invariant = { λ c. IsChecked (items_of c.script) c.types c.names c.kinds c.sends c.sites c.numbers };
 }
 
 /// The breach that no other is before.
@@ -84,12 +90,16 @@ pub fn check(alloc: Global, script: Script) -> Result<Checked, CheckFault>
     let names = names_of(alloc, types.as_slice())?;
     let kinds = sagas(alloc, script.items())?;
     let sends = sends(alloc, script.items())?;
+    let sites = sites(alloc, script.items())?;
+    let numbers = numbers_by_name(alloc, sites.as_slice())?;
     Ok(Checked {
         script,
         types,
         names,
         kinds,
         sends,
+        sites,
+        numbers,
     })
 }
 
@@ -117,6 +127,44 @@ impl Checked {
         ensures declared { AreDeclared (script self.now) }
     {
         &self.sends
+    }
+
+    /// The declared messages, in the order of the script.
+    pub(crate) fn types(&self) -> &[MessageType]
+        ensures { result.now ≡ messages (script self.now) }
+    {
+        self.types.as_slice()
+    }
+
+    /// What the headers say of a message, where its type is declared.
+    pub fn incoming(&self, alloc: Global, e: &Envelope) -> Result<Option<Incoming>, NoMemory>
+        ensures { IfOk result (λ m. m ≡ incoming (declared_names (script self.now)) e.now) }
+    {
+        Incoming::of(alloc, &self.names, e)
+    }
+
+    /// Where the blocks stand, in the order of the script.
+    fn sites(&self) -> &[Site]
+        ensures { result.now ≡ sites_from 0 (script self.now) }
+    {
+        self.sites.as_slice()
+    }
+
+    /// Where the block with this number stands.
+    pub fn site(&self, number: u32) -> Option<&Site>
+        ensures { block_at (script self.now) (option_copied result) ≡ slice_get (blocks (script self.now)) number }
+    {
+        self.sites().get(number as usize)
+    }
+
+    /// The numbers of the blocks of this type.
+    pub(crate) fn numbers_of(&self, name: &Text) -> &[u32]
+        ensures { result.now ≡ numbers_in name.now 0 (sites_from 0 (script self.now)) }
+    {
+        match self.numbers.get(name) {
+            Some(numbers) => numbers.as_slice(),
+            None => &[],
+        }
     }
 
     /// Whether a saga of this name is declared.
@@ -158,7 +206,6 @@ pub fn decode_body(
     message: u32,
     body: &Text,
 ) -> Result<Fields, BodyFault>
-    requires { message < length (declared_names (script c.now)) }
     ensures { Decodes result (body_fields (script c.now) message body.now) }
 {
     match c.types.as_slice().get(message as usize) {
@@ -167,12 +214,14 @@ pub fn decode_body(
     }
 }
 
-/// The numbers of the blocks that a message meets, rising. A block's number counts the handlers and the parts of sagas
-/// that stand before it in the text of the script.
+/// The numbers of the blocks that a message meets, rising.
 pub fn meets(alloc: Global, c: &Checked, e: &Envelope) -> Result<Blocks, NoMemory>
     ensures { IfOk result (λ ns. ns ≡ blocks_met (script c.now) e.now) }
 {
-    met_numbers(alloc, c.script.items(), &c.names, e)
+    match c.incoming(alloc, e)? {
+        Some(m) => c.met(alloc, &m),
+        None => Ok(Items::new(alloc)),
+    }
 }
 
 /// The keys that a message reads, each once, in the order of first use. There are none where its body doesn't decode or
@@ -181,5 +230,5 @@ pub fn keys(alloc: Global, c: &Checked, e: &Envelope) -> Result<Keys, NoMemory>
     ensures value { IfOk result (λ ks. ks ≡ keys_read (script c.now) e.now) }
     ensures distinct { IfOk result (λ ks. IsDistinct same_key ks) }
 {
-    read_set(alloc, c.script.items(), c.types.as_slice(), &c.names, e)
+    read_set(alloc, c, e)
 }

@@ -1,16 +1,15 @@
 //! What the headers of a message say of the blocks that it meets.
-ghost use Rattle.std.specs.Prelude.{◌≡◌, ◌==◌, ◌&&◌, ◌++◌, ◌∷◌, ℕ, List, false, bytes_eq, option_copied, IfOk, MatchOption};
+ghost use Rattle.std.specs.Prelude.{◌≡◌, ◌==◌, Some, option_copied, IfOk};
 ghost use Rattle.std.specs.List.{before_first};
 ghost use Rattle.nb_headers.specs.Reads.{type_name, trimmed_start, trimmed_end};
-ghost use Rattle.nb_check.specs.Meets.{is_true, is_timeout, is_empty, address_in, address_by, address_of, incoming_of, incoming, addresses, fits_role, is_met};
-ghost use Rattle.nb_check.specs.Declarations.{type_text};
-ghost use Rattle.nb_check.specs.Blocks.{Handles, part_block};
+ghost use Rattle.nb_check.specs.Meets.{is_true, is_timeout, is_empty, address_in, address_by, address_of, incoming_of, incoming, addresses, fits_role};
+ghost use Rattle.nb_check.specs.Blocks.{part_block};
+ghost use Rattle.nb_check.specs.Sites.{fits_block};
 ghost use Rattle.nb_script.specs.Tree as tree;
 
 use nb_base::{Bytes, Copied, Envelope, Names, NoMemory, Text};
 use nb_headers::message_type;
 use nb_headers::names::{IS_SAGA_TIMEOUT_MESSAGE, SAGA_ID, SAGA_TYPE};
-use nb_script::expr::TypeName;
 use nb_script::item::{Answer, Part};
 use std::alloc::Global;
 
@@ -108,39 +107,6 @@ fn address_of(alloc: Global, e: &Envelope) -> Result<Option<Address>, NoMemory>
     address_by(alloc, e.header(SAGA_TYPE), e.header(SAGA_ID))
 }
 
-/// What stands behind the name, where the text begins with it.
-fn behind_name<'a>(text: &'a [u8], name: &Text) -> Option<&'a [u8]>
-    ensures { MatchOption result ((q : List ℕ) → bytes_eq text.now (name.now ++ q) ≡ false) (λ r. (q : List ℕ) → bytes_eq text.now (name.now ++ q) ≡ bytes_eq r.now q) }
-{
-    text.strip_prefix(name.as_str().as_bytes())
-}
-
-/// What stands behind a dot and the name, where the text begins with them.
-fn behind_dot<'a>(text: &'a [u8], name: &Text) -> Option<&'a [u8]>
-    ensures { MatchOption result ((q : List ℕ) → bytes_eq text.now (46 ∷ name.now ++ q) ≡ false) (λ r. (q : List ℕ) → bytes_eq text.now (46 ∷ name.now ++ q) ≡ bytes_eq r.now q) }
-{
-    match text {
-        [b'.', rest @ ..] => behind_name(rest, name),
-        _ => None,
-    }
-}
-
-/// Whether the text is a type's.
-fn is_type(name: &TypeName, text: &Text) -> bool
-    ensures { result ≡ bytes_eq text.now (type_text name.now) }
-{
-    let Some(mut rest) = behind_name(text.as_str().as_bytes(), &name.name) else {
-        return false;
-    };
-    for part in name.others.as_slice() {
-        match behind_dot(rest, &part.name) {
-            Some(after) => rest = after,
-            None => return false,
-        }
-    }
-    rest.is_empty()
-}
-
 impl Incoming {
     /// What is said of a message, where its type is declared.
     pub(crate) fn of(
@@ -175,29 +141,20 @@ impl Incoming {
         }
     }
 
-    /// Whether the message meets the block of a handler of this type.
-    pub(crate) fn meets_handler(&self, name: &TypeName) -> bool
-        ensures { result ≡ (bytes_eq self.now.name (type_text name.now) && fits_role self.now Handles) }
-    {
-        is_type(name, &self.name) && !self.timeout
-    }
-
-    /// Whether the message meets the block of a part of this saga.
-    pub(crate) fn meets_part(&self, saga: &Text, part: &Part) -> bool
-        ensures { result ≡ is_met self.now (part_block saga.now (tree.part part.now)) }
+    /// Whether a message of the part's type meets the block of a part of this saga.
+    pub(crate) fn fits_part(&self, saga: &Text, part: &Part) -> bool
+        ensures { result ≡ fits_block self.now (Some (part_block saga.now (tree.part part.now))) }
     {
         match part {
-            Part::ByField { name, .. } => is_type(name, &self.name) && !self.timeout,
+            Part::ByField { .. } => !self.timeout,
             Part::ById {
                 answer: Answer::Reply,
-                name,
                 ..
-            } => is_type(name, &self.name) && (!self.timeout && self.addresses(saga)),
+            } => !self.timeout && self.addresses(saga),
             Part::ById {
                 answer: Answer::Timeout,
-                name,
                 ..
-            } => is_type(name, &self.name) && (self.timeout && self.addresses(saga)),
+            } => self.timeout && self.addresses(saga),
         }
     }
 }

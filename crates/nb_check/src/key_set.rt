@@ -4,18 +4,21 @@ ghost use Rattle.nb_script.specs.Tree as tree;
 ghost use Rattle.nb_script.specs.Tree.{phrase, block, otherwise, listed, script};
 ghost use Rattle.nb_check.specs.Keys as spec;
 ghost use Rattle.nb_check.specs.Keys.{key_of, row_key, call_key, term_keys, named_row_keys, args_keys, delay_keys, phrase_keys, phrases_keys, braces_keys, otherwise_keys};
-ghost use Rattle.nb_check.specs.Keys.{corr_key, id_key, role_keys, block_keys, keys_if_met, met_keys, read_set};
-ghost use Rattle.nb_check.specs.Declarations.{names_of};
-ghost use Rattle.nb_check.specs.Blocks.{part_block, part_blocks, item_blocks, blocks};
+ghost use Rattle.nb_check.specs.Keys.{corr_key, id_key, role_keys, block_keys, met_keys, read_set};
+ghost use Rattle.nb_check.specs.Declarations.{messages};
+ghost use Rattle.nb_check.specs.Blocks.{part_block, blocks};
+ghost use Rattle.nb_check.specs.Sites.{keys_at, numbers_keys, site_block};
 
 use crate::bodies::{BodyFault, decoded};
+use crate::checked::Checked;
 use crate::incoming::{Address, Incoming};
 use crate::known::{Known, value_in};
+use crate::sites::Site;
 use crate::types::MessageType;
-use nb_base::{Copied, Envelope, Fields, Items, Key, Keys, Names, NoMemory, Text, Value};
+use nb_base::{Copied, Envelope, Fields, Items, Key, Keys, NoMemory, Text, Value};
 use nb_headers::message_id;
 use nb_script::expr::{Arg, Expr, Function};
-use nb_script::item::{Item, Part, Saga};
+use nb_script::item::{Item, Part};
 use nb_script::stmt::{After, Block, Else, RowName, Stmt};
 use std::alloc::Global;
 
@@ -239,55 +242,71 @@ impl Incoming {
         }
     }
 
-    /// Adds the keys of the parts of a saga that the message meets.
-    fn saga_keys(
+    /// Adds the keys of the block that stands there.
+    fn site_keys(
         &self,
         alloc: Global,
         known: &Known,
-        saga: &Saga,
+        items: &[Item],
+        site: &Site,
         keys: &mut Keys,
     ) -> Result<(), NoMemory>
-        ensures { OnOk result (keys.new ≡ keys.old ++ met_keys self.now known.now (item_blocks (tree.item (Item.Saga saga.now)))) }
+        ensures { OnOk result (keys.new ≡ keys.old ++ keys_at self.now known.now (site_block (script items.now) site.now)) }
     {
-        for p in saga.parts.as_slice() {
-            if self.meets_part(&saga.name, p) {
-                self.part_keys(alloc, known, &saga.name, p, keys)?;
-            }
+        match items.get(site.item as usize) {
+            Some(Item::Handler { block, .. }) => known.body_keys(alloc, block, keys),
+            Some(Item::Saga(saga)) => match saga.parts.as_slice().get(site.part as usize) {
+                Some(part) => self.part_keys(alloc, known, &saga.name, part, keys),
+                None => Ok(()),
+            },
+            Some(Item::Message { .. }) => Ok(()),
+            None => Ok(()),
         }
-        Ok(())
+    }
+}
+
+impl Checked {
+    /// Adds the keys of the block with this number.
+    fn number_keys(
+        &self,
+        alloc: Global,
+        m: &Incoming,
+        known: &Known,
+        number: u32,
+        keys: &mut Keys,
+    ) -> Result<(), NoMemory>
+        ensures { OnOk result (keys.new ≡ keys.old ++ keys_at m.now known.now (slice_get (blocks (script self.now)) number)) }
+    {
+        match self.site(number) {
+            Some(site) => m.site_keys(alloc, known, self.items(), site, keys),
+            None => Ok(()),
+        }
     }
 
-    /// Adds the keys of the blocks of an item that the message meets.
-    fn item_keys(
+    /// The keys of the blocks with these numbers, in order.
+    fn numbers_keys(
         &self,
         alloc: Global,
+        m: &Incoming,
         known: &Known,
-        i: &Item,
-        keys: &mut Keys,
-    ) -> Result<(), NoMemory>
-        ensures { OnOk result (keys.new ≡ keys.old ++ met_keys self.now known.now (item_blocks (tree.item i.now))) }
+        numbers: &[u32],
+    ) -> Result<Keys, NoMemory>
+        ensures { IfOk result (λ ks. ks ≡ numbers_keys m.now known.now (blocks (script self.now)) numbers.now) }
     {
-        match i {
-            Item::Message { .. } => Ok(()),
-            Item::Handler { name, block, .. } => {
-                if self.meets_handler(name) {
-                    known.body_keys(alloc, block, keys)?;
-                }
-                Ok(())
-            }
-            Item::Saga(saga) => self.saga_keys(alloc, known, saga, keys),
+        let mut keys = Items::new(alloc);
+        for number in numbers {
+            self.number_keys(alloc, m, known, *number, &mut keys)?;
         }
+        Ok(keys)
     }
 
     /// The keys of the blocks that the message meets, in order.
-    fn met_keys(&self, alloc: Global, known: &Known, items: &[Item]) -> Result<Keys, NoMemory>
-        ensures { IfOk result (λ ks. ks ≡ met_keys self.now known.now (blocks (script items.now))) }
+    #[tactic(auto, using(crate::proofs::SiteLaws::keys_met))]
+    fn met_keys(&self, alloc: Global, m: &Incoming, known: &Known) -> Result<Keys, NoMemory>
+        ensures { IfOk result (λ ks. ks ≡ met_keys m.now known.now (blocks (script self.now))) }
     {
-        let mut keys = Items::new(alloc);
-        for i in items {
-            self.item_keys(alloc, known, i, &mut keys)?;
-        }
-        Ok(keys)
+        let met = self.met(alloc, m)?;
+        self.numbers_keys(alloc, m, known, met.as_slice())
     }
 }
 
@@ -335,7 +354,7 @@ fn add_key(keys: &mut Keys, key: &Key) -> Result<(), NoMemory>
     keys.push(key.copy()?)
 }
 
-fn each_once(alloc: Global, all: &[Key]) -> Result<Keys, NoMemory>
+fn without_repeats(alloc: Global, all: &[Key]) -> Result<Keys, NoMemory>
     ensures { IfOk result (λ ks. ks ≡ spec.with_keys [] all.now) }
 {
     let mut keys = Items::new(alloc);
@@ -343,6 +362,17 @@ fn each_once(alloc: Global, all: &[Key]) -> Result<Keys, NoMemory>
         add_key(&mut keys, key)?;
     }
     Ok(keys)
+}
+
+#[tactic(auto, using(crate::proofs::KeyLaws::one_key))]
+fn each_once(alloc: Global, all: Keys) -> Result<Keys, NoMemory>
+    ensures { IfOk result (λ ks. ks ≡ spec.with_keys [] all) }
+{
+    // One key has no other like it.
+    if all.len() < 2 {
+        return Ok(all);
+    }
+    without_repeats(alloc, all.as_slice())
 }
 
 /// The fields of a message of the declared type with this number, where its body has them.
@@ -366,24 +396,17 @@ fn fields_for(
 
 /// The keys that a message reads, each once, in the order of first use. There are none where its body doesn't decode or
 /// it meets no block.
-pub(crate) fn read_set(
-    alloc: Global,
-    items: &[Item],
-    types: &[MessageType],
-    names: &Names,
-    e: &Envelope,
-) -> Result<Keys, NoMemory>
-    requires { names.now ≡ names_of types.now }
-    ensures { IfOk result (λ ks. ks ≡ read_set (script items.now) types.now e.now) }
+pub(crate) fn read_set(alloc: Global, c: &Checked, e: &Envelope) -> Result<Keys, NoMemory>
+    ensures { IfOk result (λ ks. ks ≡ read_set (script c.now) (messages (script c.now)) e.now) }
 {
-    let Some(message) = Incoming::of(alloc, names, e)? else {
+    let Some(message) = c.incoming(alloc, e)? else {
         return Ok(Items::new(alloc));
     };
-    let Some(fields) = fields_for(alloc, types, message.message, e)? else {
+    let Some(fields) = fields_for(alloc, c.types(), message.message, e)? else {
         return Ok(Items::new(alloc));
     };
     let id = message_id(e).copy()?;
     let known = Known { id, fields };
-    let all = message.met_keys(alloc, &known, items)?;
-    each_once(alloc, all.as_slice())
+    let all = c.met_keys(alloc, &message, &known)?;
+    each_once(alloc, all)
 }

@@ -18,6 +18,7 @@ mod rules;
 mod scope;
 mod sends;
 mod sight;
+mod sites;
 mod tables;
 mod types;
 
@@ -27,9 +28,6 @@ pub use checked::{Checked, check, decode_body, keys, meets};
 pub use fault::CheckFault;
 pub use incoming::{Address, Incoming};
 pub use known::Known;
-pub use met::Blocks;
 pub use sight::{Judgement, Local, SagaSight, Sight, Taken};
+pub use sites::{Blocks, Site};
 pub use types::{Declared, MessageType, SagaType, StateField};
-
-#[cfg(test)]
-mod tests;

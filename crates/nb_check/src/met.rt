@@ -1,77 +1,61 @@
 //! The blocks that a message meets.
-ghost use Rattle.std.specs.Prelude.{◌≡◌, ◌+◌, ◌++◌, length, IfOk, OnOk};
-ghost use Rattle.nb_check.specs.Blocks.{part_blocks, item_blocks, blocks};
-ghost use Rattle.nb_check.specs.Meets.{met_from, met_numbers};
-ghost use Rattle.nb_script.specs.Tree as tree;
+ghost use Rattle.std.specs.Prelude.{◌≡◌, slice_get, IfOk};
+ghost use Rattle.nb_check.specs.Blocks.{blocks};
+ghost use Rattle.nb_check.specs.Meets.{met_from};
+ghost use Rattle.nb_check.specs.Sites.{fits_block, fitting, site_block};
 ghost use Rattle.nb_script.specs.Tree.{script};
 
+use crate::checked::Checked;
 use crate::incoming::Incoming;
-use nb_base::{Envelope, Items, Names, NoMemory};
-use nb_script::item::{Item, Saga};
+use crate::sites::{Blocks, Site};
+use nb_base::{Items, NoMemory};
+use nb_script::item::Item;
 use std::alloc::Global;
 
-/// Numbers of blocks, rising. A block's number counts the handlers and the parts of sagas that stand before it in the
-/// text of the script.
-pub type Blocks = Items<u32>;
-
-/// The number after this one.
-fn next(number: u32) -> Result<u32, NoMemory>
-    ensures { IfOk result (λ n. n ≡ number + 1) }
-{
-    number.checked_add(1).ok_or(NoMemory)
-}
-
 impl Incoming {
-    /// Adds the numbers of the blocks met in a saga, whose numbers begin with the first, and gives the number behind them.
-    fn met_in_saga(&self, saga: &Saga, first: u32, met: &mut Blocks) -> Result<u32, NoMemory>
-        ensures met { OnOk result (met.new ≡ met.old ++ met_from self.now first (item_blocks (tree.item (Item.Saga saga.now)))) }
-        ensures count { IfOk result (λ n. n ≡ first + length (item_blocks (tree.item (Item.Saga saga.now)))) }
+    /// Whether a message of the block's type meets the block that stands there.
+    fn fits_site(&self, items: &[Item], site: &Site) -> bool
+        ensures { result ≡ fits_block self.now (site_block (script items.now) site.now) }
     {
-        let mut number = first;
-        for p in saga.parts.as_slice() {
-            if self.meets_part(&saga.name, p) {
-                met.push(number)?;
-            }
-            number = next(number)?;
-        }
-        Ok(number)
-    }
-
-    /// Adds the numbers of the blocks met in an item, whose numbers begin with the first, and gives the number behind them.
-    fn met_in(&self, i: &Item, first: u32, met: &mut Blocks) -> Result<u32, NoMemory>
-        ensures met { OnOk result (met.new ≡ met.old ++ met_from self.now first (item_blocks (tree.item i.now))) }
-        ensures count { IfOk result (λ n. n ≡ first + length (item_blocks (tree.item i.now))) }
-    {
-        match i {
-            Item::Message { .. } => Ok(first),
-            Item::Handler { name, .. } => {
-                if self.meets_handler(name) {
-                    met.push(first)?;
-                }
-                next(first)
-            }
-            Item::Saga(saga) => self.met_in_saga(saga, first, met),
+        match items.get(site.item as usize) {
+            Some(Item::Handler { .. }) => !self.timeout,
+            Some(Item::Saga(saga)) => match saga.parts.as_slice().get(site.part as usize) {
+                Some(part) => self.fits_part(&saga.name, part),
+                None => false,
+            },
+            _ => false,
         }
     }
 }
 
-/// The numbers of the blocks that a message meets.
-#[tactic(auto, using(crate::proofs::MetLaws::met_behind))]
-pub(crate) fn met_numbers(
-    alloc: Global,
-    items: &[Item],
-    names: &Names,
-    e: &Envelope,
-) -> Result<Blocks, NoMemory>
-    ensures { IfOk result (λ ns. ns ≡ met_numbers (script items.now) names.now e.now) }
-{
-    let mut met = Items::new(alloc);
-    let Some(message) = Incoming::of(alloc, names, e)? else {
-        return Ok(met);
-    };
-    let mut number = 0;
-    for i in items {
-        number = message.met_in(i, number, &mut met)?;
+impl Checked {
+    /// Whether a message of the block's type meets the block with this number.
+    fn fits_number(&self, m: &Incoming, number: u32) -> bool
+        ensures { result ≡ fits_block m.now (slice_get (blocks (script self.now)) number) }
+    {
+        match self.site(number) {
+            Some(site) => m.fits_site(self.items(), site),
+            None => false,
+        }
     }
-    Ok(met)
+
+    /// Of the numbers of blocks of the message's type those that it meets.
+    fn fitting(&self, alloc: Global, m: &Incoming, numbers: &[u32]) -> Result<Blocks, NoMemory>
+        ensures { IfOk result (λ ns. ns ≡ fitting m.now (blocks (script self.now)) numbers.now) }
+    {
+        let mut met = Items::new(alloc);
+        for number in numbers {
+            if self.fits_number(m, *number) {
+                met.push(*number)?;
+            }
+        }
+        Ok(met)
+    }
+
+    /// The numbers of the blocks that a message meets, rising.
+    pub fn met(&self, alloc: Global, m: &Incoming) -> Result<Blocks, NoMemory>
+        ensures { IfOk result (λ ns. ns ≡ met_from m.now 0 (blocks (script self.now))) }
+    {
+        self.fitting(alloc, m, self.numbers_of(&m.name))
+    }
 }

@@ -1,5 +1,5 @@
 -- Bodies hold no float, and so have the compact text of their values.
-use Rattle.std.proofs.Common.{◌≡◌, ◌∙◌, ◌<◌, ◌≤◌, ◌+◌, ℕ, zero, suc, ap, refl, sym, List, [], ◌∷◌, ◌++◌, length, get_or, drop, Bool, true, false, ◌||◌, true≢false, Result, Ok, Err, map, arith, add-one, drop-cons}
+use Rattle.std.proofs.Common.{◌≡◌, ◌∙◌, ℕ, ap, refl, List, [], ◌∷◌, ◌++◌, Bool, true, false, ◌||◌, true≢false, Ok, Err}
 use Rattle.std.specs.declared.cmp.Ordering.{Ordering}
 use Rattle.std.specs.declared.cmp.Ordering.TheVariants.{Less, Equal, Greater}
 use Rattle.std.specs.Ordering.{nat_cmp, match_ordering}
@@ -53,12 +53,3 @@ body_of-from d fs s is text = text (ap has_float is ∙ no_float-members fs no_m
 abbrev pub made_after : List Field → Answer (List Field) → Answer (List Field)
 made_after done (Ok fs) = Ok (done ++ fs)
 made_after done (Err e) = Err e
-
-pub next_of : {A : Type 0} (xs : List A) (i : ℕ) (x : A) → i < length xs → x ≡ get_or xs i x → drop i xs ≡ x ∷ drop (i + 1) xs
-next_of xs i x h e = rw (add-one) (drop-cons xs i x h ∙ ap (λ y. y ∷ drop (suc i) xs) (sym e))
-
-pub drop-past : {A : Type 0} (xs : List A) (i : ℕ) → length xs ≤ i → drop i xs ≡ []
-drop-past [] zero h = refl
-drop-past [] (suc i) h = refl
-drop-past (x ∷ xs) zero h = absurd (omega arith)
-drop-past (x ∷ xs) (suc i) h = drop-past xs i (omega arith)

@@ -1,5 +1,5 @@
 -- The saga that is found by an id: it stands at some place, and where none is found none has the id.
-use Rattle.std.proofs.Common.{Ordering, Less, Equal, Greater, ◌≡◌, ◌≢◌, ◌⊎◌, Bool, true, false, true≢false, cond, Some, None, Option, refl, sym, ap, ◌∙◌, inl, inr, subst, T, ℕ, List, [], ◌∷◌}
+use Rattle.std.proofs.Common.{Ordering, Less, Equal, Greater, ◌≡◌, ◌≢◌, ◌⊎◌, Bool, true, false, true≢false, cond, Some, refl, sym, ap, ◌∙◌, inl, inr, subst, T, ℕ, List, [], ◌∷◌}
 use Rattle.std.specs.Prelude.{◌&&◌, bytes_eq}
 use Rattle.std.specs.Cmp.{Equal-is}
 use Rattle.std.specs.Ordering.{is_lt, eq_by_cmp}

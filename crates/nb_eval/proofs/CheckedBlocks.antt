@@ -1,11 +1,10 @@
 -- What the rules say of the blocks and the sagas of a script that breaks none.
-use Rattle.std.proofs.Common.{◌≡◌, ◌≢◌, ◌<◌, ℕ, zero, suc, length, get_or, arith, ℤ, pos, refl, sym, ap, ◌∙◌, subst, List, [], ◌∷◌, ◌++◌, Bool, true, false, not, Option, Some, None, cond, true≢false}
+use Rattle.std.proofs.Common.{◌≡◌, ◌<◌, ℕ, zero, suc, length, get_or, arith, ℤ, pos, refl, sym, ap, ◌∙◌, subst, List, [], ◌∷◌, Bool, true, false, not, Option, Some, None, cond, true≢false}
 use Rattle.std.specs.Prelude.{int_le, map as map_list}
 use Rattle.std.specs.List.{AllByRecursion, IsDistinct}
 use Rattle.std.specs.Str.{bytes_eq}
 use Rattle.std.specs.Cmp.Lexicographic.{bytes_decides}
 use Rattle.nb_script.specs.declared.expr.TypeName.{TypeName}
-use Rattle.nb_script.specs.declared.item.Field.{Field as FieldLine}
 use Rattle.nb_script.specs.declared.item.FieldKind.{FieldKind}
 use Rattle.nb_script.specs.declared.item.FieldKind.TheVariants as kind
 use Rattle.nb_script.specs.declared.item.Literal.{Literal}
@@ -16,12 +15,12 @@ use Rattle.nb_script.specs.declared.item.Since.{Since}
 use Rattle.nb_script.specs.declared.item.Item.{Item}
 use Rattle.nb_script.specs.Tree.{item, script}
 use Rattle.nb_script.specs.Grammar.{Braces, PartTerm, ByField, ById, SagaTerm, ItemTerm, Message, Handler, Saga}
-use Rattle.nb_check.specs.Blocks.{Role, Handles, Finds, Answers, BlockTerm, handler_block, part_block, part_blocks, item_blocks, blocks}
-use Rattle.nb_check.specs.Breaches.{breach, unless_true, again, twice}
-use Rattle.nb_check.specs.Declarations.{type_text, field_of, default_of, literal_value, since_of, first_value, state_field, state_fields, revision_of, saga_type, saga_of, sagas, messages}
+use Rattle.nb_check.specs.Blocks.{Role, Handles, Finds, Answers, BlockTerm, handler_block, part_block, part_blocks, blocks}
+use Rattle.nb_check.specs.Breaches.{unless_true, again, twice}
+use Rattle.nb_check.specs.Declarations.{type_text, field_of, default_of, literal_value, since_of, first_value, state_fields, revision_of, saga_type, sagas, messages}
 use Rattle.nb_check.specs.Fits.{kind_of, saga_named}
-use Rattle.nb_check.specs.Kinds.{is_kind, kind_in, unless_kind}
-use Rattle.nb_check.specs.Rules.{placed_messages, placed_saga, placed_sagas, placed_field, placed_state, correlation_faults, lies_in, revision_faults, literal_kind, literal_place, since_faults, state_faults, state_kinds, saga_sight, sight, block_faults, found_by, by_faults, part_faults, parts_faults, declared_faults, placed_parts, placed_timeouts, saga_faults, item_faults, items_faults, script_faults}
+use Rattle.nb_check.specs.Kinds.{is_kind, kind_in}
+use Rattle.nb_check.specs.Rules.{placed_messages, placed_sagas, placed_field, placed_state, correlation_faults, lies_in, revision_faults, literal_kind, literal_place, since_faults, state_faults, state_kinds, saga_sight, sight, block_faults, found_by, by_faults, part_faults, parts_faults, declared_faults, placed_parts, placed_timeouts, saga_faults, item_faults, items_faults, script_faults}
 use Rattle.nb_check.specs.Statements.{fields_of, unless_known, braces_faults}
 use Rattle.nb_check.specs.declared.breach.CheckKind.{CheckKind}
 use Rattle.nb_check.specs.declared.breach.CheckKind.TheVariants.{MessageTwice, SagaTwice, FieldTwice, PartTwice, BadCorrelation, BadRevision, WrongType}
@@ -31,7 +30,7 @@ use Rattle.nb_check.specs.declared.types.Declared.{Declared}
 use Rattle.nb_check.specs.declared.types.MessageType.{MessageType}
 use Rattle.nb_check.specs.declared.types.SagaType.{SagaType}
 use Rattle.nb_check.specs.declared.types.StateField.{StateField}
-use Rattle.nb_eval.specs.Walks.{IsDeclared}
+use Rattle.nb_eval.specs.Blocks.{IsDeclared}
 use Rattle.nb_eval.proofs.Steps.{left-nil, right-nil, and-left, and-right, is-true, all-both}
 use Rattle.nb_eval.proofs.SameKeys.{bytes-is, bytes-refl}
 use Rattle.nb_eval.proofs.Sights.{kind-is}

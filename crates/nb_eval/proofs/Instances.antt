@@ -1,6 +1,6 @@
 -- What is in sight of a block of a saga is what its type declares.
-use Rattle.std.proofs.Common.{◌≡◌, ℕ, ℤ, pos, refl, sym, ap, ◌∙◌, subst, List, [], ◌∷◌, ◌++◌, slice_get, Bool, true, false, ◌&&◌, Option, Some, None, option_map, option_and_then, Ok, Err, cond, true≢false}
-use Rattle.std.specs.Prelude.{int_le, nat_le, nat_abs}
+use Rattle.std.proofs.Common.{◌≡◌, ℕ, ℤ, pos, refl, sym, ap, ◌∙◌, List, [], ◌∷◌, Bool, true, false, ◌&&◌, Option, Some, None, option_map, option_and_then, cond, true≢false}
+use Rattle.std.specs.Prelude.{int_le, nat_le}
 use Rattle.std.specs.List.{AllByRecursion}
 use Rattle.std.specs.Str.{bytes_eq}
 use Rattle.serde_json.specs.Data.{Data, null, boolean, number, string, array, object}
@@ -11,11 +11,10 @@ use Rattle.nb_base.specs.declared.value.Value.{Value}
 use Rattle.nb_base.specs.declared.value.Value.TheVariants.{Int, Text, Bool as Truth}
 use Rattle.nb_script.specs.declared.item.FieldKind.{FieldKind}
 use Rattle.nb_script.specs.declared.item.FieldKind.TheVariants as kind
-use Rattle.nb_check.specs.Bodies.{given, member_value, named as named_field, field_in, behind, before, fields_in, object_fields, json_of, without_mark, decoded}
+use Rattle.nb_check.specs.Bodies.{given, member_value, named as named_field, before, fields_in, object_fields, json_of, without_mark, decoded}
 use Rattle.nb_check.specs.Declarations.{default_of}
-use Rattle.nb_check.specs.Fits.{kind_of, is_there, is_field, fits_fields, fits_type, first_field, lifted_fields, lifted}
-use Rattle.nb_check.specs.Keys.{value_in}
-use Rattle.nb_check.specs.Kinds.{is_kind, kind_in}
+use Rattle.nb_check.specs.Fits.{kind_of, is_there, is_field, fits_fields, fits_type, first_field, lifted_fields}
+use Rattle.nb_check.specs.Kinds.{is_kind}
 use Rattle.nb_check.specs.declared.sight.SagaSight.{SagaSight}
 use Rattle.nb_check.specs.declared.types.Declared.{Declared}
 use Rattle.nb_check.specs.declared.types.SagaType.{SagaType}
@@ -24,7 +23,7 @@ use Rattle.nb_eval.specs.Blocks.{stored_instance, first_fields, new_instance}
 use Rattle.nb_eval.specs.Worlds.{World}
 use Rattle.nb_eval.proofs.Steps.{and-left, and-right}
 use Rattle.nb_eval.proofs.SameKeys.{bytes-is}
-use Rattle.nb_eval.proofs.Sights.{declared, instance_sight, kind-is, kind_if, kind-declared}
+use Rattle.nb_eval.proofs.Sights.{declared, instance_sight, kind-is}
 use Rattle.nb_eval.proofs.CheckedBlocks.{state_declared, type_sight, IsGoodField, IsGoodType}
 
 abbrev one : List ℕ → FieldKind → List Declared → List Declared

@@ -1,5 +1,5 @@
 -- What statements keep: the changes of sagas, what a saga is, rows each once, and intents that may go.
-use Rattle.std.proofs.Common.{◌≡◌, ◌≢◌, ℕ, ℤ, ◌+ℤ◌, ◌+◌, ◌≤◌, ◌<◌, refl, sym, ap, ◌∙◌, subst, List, [], ◌∷◌, ◌++◌, length, nat_lt, nat_le, Bool, true, false, is_some, Option, Some, None, Ok, Err, cond, true≢false, arith}
+use Rattle.std.proofs.Common.{◌≡◌, ◌≢◌, ℕ, ℤ, ◌+ℤ◌, ◌+◌, ◌≤◌, refl, sym, ap, ◌∙◌, subst, List, [], ◌∷◌, ◌++◌, length, nat_lt, nat_le, Bool, true, false, is_some, Option, Some, None, Ok, Err, cond, true≢false, arith}
 use Rattle.std.proofs.lemmas.Bool.{leb-false}
 use Rattle.std.specs.List.{AllByRecursion}
 use Rattle.std.specs.Str.{bytes_eq}
@@ -12,20 +12,20 @@ use Rattle.nb_base.specs.declared.value.Field.{Field}
 use Rattle.nb_base.specs.declared.value.Value.{Value}
 use Rattle.nb_script.specs.declared.stmt.Destination.{Destination}
 use Rattle.nb_script.specs.declared.stmt.Destination.TheVariants as to
-use Rattle.nb_script.specs.Grammar.{Term, ArgTerm, MakeTerm, RowTerm, AfterTerm}
+use Rattle.nb_script.specs.Grammar.{MakeTerm}
 use Rattle.nb_script.specs.Grammar.{Phrase, Let, Set, Put, Add, Erase, Send, Publish, Reply, Timeout, Complete, Refuse, If, Phrases, Nil, Then, Braces, Brace, Otherwise, Nothing, Last, Chain}
 use Rattle.nb_check.specs.Declarations.{type_text}
 use Rattle.nb_eval.specs.declared.scene.Instance.{Instance}
 use Rattle.nb_eval.specs.declared.scene.State.{State}
 use Rattle.nb_eval.specs.declared.scene.Touched.{Touched}
 use Rattle.nb_eval.specs.declared.stop.Stop.TheVariants as stop
-use Rattle.nb_eval.specs.declared.stop.Limit.TheVariants.{TooMany, TooLarge, NoReplyAddress}
+use Rattle.nb_eval.specs.declared.stop.Limit.TheVariants.{TooMany, TooLarge}
 use Rattle.nb_eval.specs.Values.{Answer, ◌>>=◌, found, in_range}
 use Rattle.nb_eval.specs.Worlds.{World, stored, put_row}
 use Rattle.nb_eval.specs.Expressions.{number_or_zero, value_of, whole_of, text_of, truth_of, row_at}
 use Rattle.nb_eval.specs.Making.{made, seconds_of, timed, delay_of, address, answered, from_saga, intent, with_intent, sent, target_of}
 use Rattle.nb_check.specs.Sends.{routed, phrase_sends, phrases_sends, braces_sends, otherwise_sends}
-use Rattle.nb_eval.specs.Statements.{with_field, with_fields, set_to, complete, with_name, leave, left, chosen, run, in_turn, within, otherwise}
+use Rattle.nb_eval.specs.Statements.{with_field, with_fields, set_to, complete, with_name, leave, chosen, run, in_turn, within, otherwise}
 use Rattle.nb_eval.proofs.Steps.{bind-ok, all-left, all-right, all-both}
 use Rattle.nb_eval.proofs.SameKeys.{bytes-is}
 

@@ -11,6 +11,7 @@ pub mod LocalVerdicts
 pub mod MeaningLaws
 pub mod Names
 pub mod NeverWrong
+pub mod NumberLaws
 pub mod Reaching
 pub mod RightBlocks
 pub mod RightPlan
@@ -20,5 +21,4 @@ pub mod Sights
 pub mod Sound
 pub mod SoundStmts
 pub mod Steps
-pub mod WalkLaws
 pub mod Within

@@ -1,15 +1,12 @@
 -- What statements do depends on the tables at their keys alone.
-use Rattle.std.proofs.Common.{◌≡◌, ℕ, ℤ, pos, ◌+ℤ◌, refl, sym, ap, ◌∙◌, subst, List, [], ◌∷◌, ◌++◌, Bool, Option, Some, None, unwrap_or, is_some, Ok, Err}
-use Rattle.std.specs.List.{AllByRecursion}
+use Rattle.std.proofs.Common.{◌≡◌, ℕ, pos, ◌+ℤ◌, refl, sym, ap, ◌∙◌, subst, List, [], ◌∷◌, ◌++◌, Option, Some, None, unwrap_or, is_some, Ok, Err}
 use Rattle.nb_base.specs.declared.plan.Target.{Target}
 use Rattle.nb_base.specs.declared.plan.Target.TheVariants as target
 use Rattle.nb_base.specs.declared.saga_row.Seen.{Seen}
-use Rattle.nb_base.specs.declared.value.Field.{Field as FieldValue}
 use Rattle.nb_base.specs.declared.value.Key.{Key}
 use Rattle.nb_base.specs.declared.value.Key.TheVariants as key
 use Rattle.nb_base.specs.declared.value.Value.{Value}
-use Rattle.nb_base.specs.declared.value.Value.TheVariants.{Int, Text, Bool as Truth}
-use Rattle.nb_script.specs.declared.expr.Binary.{Binary}
+use Rattle.nb_base.specs.declared.value.Value.TheVariants.{Int, Bool as Truth}
 use Rattle.nb_script.specs.declared.expr.Constant.{Constant as ConstantWord}
 use Rattle.nb_script.specs.declared.expr.Constant.TheVariants as word
 use Rattle.nb_script.specs.declared.expr.Function.{Function}
@@ -18,8 +15,8 @@ use Rattle.nb_script.specs.declared.expr.Holder.TheVariants as holder
 use Rattle.nb_script.specs.Grammar.{Term, Number, Quoted, Constant, Field, Name, Call, Paren, Prefix, Infix, ArgTerm, MakeTerm, RowTerm, AfterTerm}
 use Rattle.nb_script.specs.Grammar.{Phrase, Let, Set, Put, Add, Erase, Send, Publish, Reply, Timeout, Complete, Refuse, If, Phrases, Nil, Then, Braces, Brace, Otherwise, Nothing, Last, Chain}
 use Rattle.nb_check.specs.Keys.{row_key, call_key, term_keys, named_row_keys, args_keys, delay_keys, phrase_keys, phrases_keys, braces_keys, otherwise_keys}
-use Rattle.nb_check.specs.Kinds.{faults, name_faults, argument_faults, judgement, wants, prefix_kind, operands, taken_by}
-use Rattle.nb_check.specs.Statements.{fields_of, args_faults, takes_in, missing_faults, make_faults, value_faults, row_faults, delay_faults, after, phrase_faults, phrases_faults, braces_faults, otherwise_faults, put_faults, needs_saga, timeout_faults, originator_faults, placed_args}
+use Rattle.nb_check.specs.Kinds.{faults, name_faults, argument_faults, judgement}
+use Rattle.nb_check.specs.Statements.{fields_of, args_faults, takes_in, missing_faults, make_faults, value_faults, row_faults, delay_faults, after, phrase_faults, phrases_faults, braces_faults, otherwise_faults, needs_saga, timeout_faults, originator_faults, placed_args}
 use Rattle.nb_check.specs.Breaches.{twice}
 use Rattle.nb_check.specs.Declarations.{type_text}
 use Rattle.nb_check.specs.declared.breach.CheckKind.TheVariants.{FieldTwice}
@@ -29,11 +26,11 @@ use Rattle.nb_check.specs.declared.types.MessageType.{MessageType}
 use Rattle.nb_script.specs.declared.item.FieldKind.TheVariants as kind
 use Rattle.nb_eval.specs.declared.scene.State.{State}
 use Rattle.nb_eval.specs.declared.stop.Stop.TheVariants as stop
-use Rattle.nb_eval.specs.Values.{Answer, ◌>>=◌, found, whole, text, truth, binary, unary, in_range}
+use Rattle.nb_eval.specs.Values.{◌>>=◌, found, whole, text, truth, binary, unary, in_range}
 use Rattle.nb_eval.specs.Worlds.{World, named, touched_at, or_there, row_now, put_row}
-use Rattle.nb_eval.specs.Expressions.{constant_value, row_name, number_or_zero, call_value, value_of, whole_of, text_of, truth_of, row_at}
+use Rattle.nb_eval.specs.Expressions.{constant_value, row_name, number_or_zero, call_value, value_of, whole_of, truth_of, row_at}
 use Rattle.nb_eval.specs.Making.{made, delay_in, seconds_of, timed, delay_of, answered, intent, with_intent, sent, target_of}
-use Rattle.nb_eval.specs.Statements.{with_name, set_to, leave, left, chosen, run, in_turn, within, otherwise}
+use Rattle.nb_eval.specs.Statements.{with_name, set_to, left, chosen, run, in_turn, within, otherwise}
 use Rattle.nb_eval.proofs.Steps.{left-nil, right-nil, bind-same, all-left, all-right}
 use Rattle.nb_eval.proofs.SameKeys.{Agree}
 use Rattle.nb_eval.proofs.Names.{known_of, named-key}

@@ -1,28 +1,21 @@
 -- The verdict depends on the tables at the message's keys alone.
-use Rattle.std.proofs.Common.{◌≡◌, ℕ, ◌+◌, refl, sym, ap, ◌∙◌, subst, List, [], ◌∷◌, ◌++◌, slice_get, Bool, true, false, not, ◌&&◌, Option, Some, None, unwrap_or, Ok, Err, cond, true≢false}
+use Rattle.std.proofs.Common.{◌≡◌, ℕ, ◌+◌, refl, sym, ap, ◌∙◌, subst, List, [], ◌∷◌, ◌++◌, true, false, not, Option, Some, None, Ok, cond, true≢false}
 use Rattle.std.specs.List.{AllByRecursion}
 use Rattle.std.specs.Str.{bytes_eq}
-use Rattle.nb_base.specs.Messages.{Message, header}
 use Rattle.nb_base.specs.declared.saga_row.SagaRow.{SagaRow}
 use Rattle.nb_base.specs.declared.saga_row.Seen.{Seen}
-use Rattle.nb_base.specs.declared.value.Field.{Field as FieldValue}
 use Rattle.nb_base.specs.declared.value.Key.{Key}
 use Rattle.nb_base.specs.declared.value.Key.TheVariants as key
 use Rattle.nb_base.specs.declared.value.Value.{Value}
-use Rattle.nb_headers.specs.HeaderNames.{saga_id, saga_type}
-use Rattle.nb_headers.specs.Reads.{id_of, header_or, type_name}
 use Rattle.nb_script.specs.declared.item.Answer.{Answer as AnswerWord}
 use Rattle.nb_script.specs.declared.item.Answer.TheVariants.{Reply, Timeout}
 use Rattle.nb_script.specs.declared.item.Finder.{Finder}
 use Rattle.nb_script.specs.declared.item.Finder.TheVariants.{Start, Find}
-use Rattle.nb_script.specs.Grammar.{Braces, ItemTerm}
-use Rattle.nb_check.specs.Blocks.{Role, Handles, Finds, Answers, BlockTerm, blocks}
-use Rattle.nb_check.specs.Checks.{declared_names, body_fields, fields_by, blocks_met, keys_read}
-use Rattle.nb_check.specs.Declarations.{messages, names_of, sagas}
+use Rattle.nb_script.specs.Grammar.{Braces}
+use Rattle.nb_check.specs.Blocks.{Role, Handles, Finds, Answers, BlockTerm}
 use Rattle.nb_check.specs.Fits.{saga_named}
-use Rattle.nb_check.specs.Keys.{value_in, corr_key, id_key, role_keys, block_keys, keys_if_met, met_keys, with_keys, keys_for, keys_by, fields_for, braces_keys}
-use Rattle.nb_check.specs.Meets.{incoming, incoming_as, incoming_of, address_of, address_by, address_in, is_empty, addresses, fits_role, is_met}
-use Rattle.nb_check.specs.Rules.{script_faults}
+use Rattle.nb_check.specs.Keys.{value_in, corr_key, id_key, role_keys, block_keys, met_keys, braces_keys}
+use Rattle.nb_check.specs.Meets.{addresses, fits_role, is_met}
 use Rattle.nb_check.specs.Statements.{braces_faults}
 use Rattle.nb_check.specs.declared.incoming.Address.{Address}
 use Rattle.nb_check.specs.declared.incoming.Incoming.{Incoming}
@@ -31,13 +24,11 @@ use Rattle.nb_check.specs.declared.types.MessageType.{MessageType}
 use Rattle.nb_check.specs.declared.types.SagaType.{SagaType}
 use Rattle.nb_eval.specs.declared.scene.Instance.{Instance}
 use Rattle.nb_eval.specs.declared.scene.State.{State}
-use Rattle.nb_eval.specs.declared.scene.Touched.{Touched}
-use Rattle.nb_eval.specs.Values.{Answer, ◌>>=◌, found}
+use Rattle.nb_eval.specs.Values.{◌>>=◌, found}
 use Rattle.nb_eval.specs.Worlds.{World, saga_there}
-use Rattle.nb_eval.specs.Statements.{within}
 use Rattle.nb_eval.specs.Blocks.{stored_instance, new_instance, ended, enter, in_block, numbered, on_absent, on_found, on_answer, block_does, term_does, blocks_do}
-use Rattle.nb_eval.proofs.Steps.{left-nil, right-nil, and-left, and-right, bind-same, all-left, all-right}
-use Rattle.nb_eval.proofs.SameKeys.{Agree, agree-all}
+use Rattle.nb_eval.proofs.Steps.{and-right, bind-same}
+use Rattle.nb_eval.proofs.SameKeys.{Agree}
 use Rattle.nb_eval.proofs.Names.{known_of}
 use Rattle.nb_eval.proofs.Local.{at_look, agree-left, agree-right, within-local}
 

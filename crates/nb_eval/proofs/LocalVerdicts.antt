@@ -1,5 +1,5 @@
 -- The verdict over what was read is the verdict over the tables.
-use Rattle.std.proofs.Common.{◌≡◌, ℕ, refl, sym, ap, ◌∙◌, subst, List, [], ◌∷◌, ◌++◌, slice_get, Bool, true, false, ◌||◌, Option, Some, None, option_map, option_and_then, unwrap_or, Ok, Err, cond, true≢false}
+use Rattle.std.proofs.Common.{◌≡◌, ℕ, refl, sym, ap, ◌∙◌, subst, List, [], ◌∷◌, ◌++◌, slice_get, Bool, true, false, ◌||◌, Option, Some, None, option_map, option_and_then, unwrap_or, Ok, cond}
 use Rattle.std.specs.List.{AllByRecursion}
 use Rattle.nb_base.specs.Messages.{Message, header}
 use Rattle.nb_base.specs.Shown.{Stored, shown, seen}
@@ -8,29 +8,26 @@ use Rattle.nb_base.specs.declared.value.Field.{Field as FieldValue}
 use Rattle.nb_base.specs.declared.value.Key.{Key}
 use Rattle.nb_base.specs.declared.value.Key.TheVariants as key
 use Rattle.nb_headers.specs.HeaderNames.{saga_id, saga_type}
-use Rattle.nb_headers.specs.Reads.{id_of, header_or, type_name, message_type}
+use Rattle.nb_headers.specs.Reads.{id_of, type_name, message_type}
 use Rattle.nb_script.specs.Grammar.{ItemTerm}
 use Rattle.nb_check.specs.Blocks.{BlockTerm, blocks}
 use Rattle.nb_check.specs.Checks.{declared_names, body_fields, fields_by, blocks_met, keys_read}
-use Rattle.nb_check.specs.Declarations.{messages, names_of, sagas}
-use Rattle.nb_check.specs.Keys.{met_keys, with_keys, keys_for, keys_by, fields_for}
-use Rattle.nb_check.specs.Meets.{incoming, incoming_as, incoming_of, address_of, address_by, address_in, is_empty}
+use Rattle.nb_check.specs.Declarations.{messages, sagas}
+use Rattle.nb_check.specs.Keys.{met_keys, keys_for, keys_by, fields_for}
+use Rattle.nb_check.specs.Meets.{incoming, incoming_as, incoming_of, address_of, address_by, is_empty}
 use Rattle.nb_check.specs.Rules.{script_faults, sight}
 use Rattle.nb_check.specs.Statements.{braces_faults}
 use Rattle.nb_check.specs.declared.incoming.Address.{Address}
 use Rattle.nb_check.specs.declared.incoming.Incoming.{Incoming}
 use Rattle.nb_check.specs.declared.sight.Sight.{Sight}
 use Rattle.nb_check.specs.declared.types.MessageType.{MessageType}
-use Rattle.nb_eval.specs.declared.scene.State.{State}
 use Rattle.nb_eval.specs.declared.scene.Touched.{Touched}
 use Rattle.nb_eval.specs.Values.{Answer, ◌>>=◌}
-use Rattle.nb_eval.specs.Worlds.{World, seen_in}
+use Rattle.nb_eval.specs.Worlds.{seen_in}
 use Rattle.nb_eval.specs.Blocks.{blocks_do}
 use Rattle.nb_eval.specs.Verdicts.{nothing_done, row_write, row_writes, plan_of, world_at, handled, verdict_of, on_body, on_met, on_type, verdict_over}
 use Rattle.nb_eval.proofs.Steps.{bind-same}
 use Rattle.nb_eval.proofs.SameKeys.{Agree, agree-all, seen-all}
-use Rattle.nb_eval.proofs.Names.{known_of}
-use Rattle.nb_eval.proofs.Local.{at_look}
 use Rattle.nb_eval.proofs.LocalBlocks.{IsAddressed, blocks-local}
 use Rattle.nb_eval.proofs.CheckedBlocks.{IsGoodBlock, role_sight, good-blocks}
 use Rattle.nb_eval.proofs.Within.{Touches, blocks-touches}

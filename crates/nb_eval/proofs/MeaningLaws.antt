@@ -1,13 +1,11 @@
 -- A checked script's meaning is one: its verdict depends on what the tables show at the message's keys, and its plans keep them sound.
-use Rattle.std.proofs.Common.{◌≡◌, ◌≤◌, ℕ, suc, refl, sym, ap, ◌∙◌, subst, List, [], ◌∷◌, ◌++◌, length, slice_get, true, false, cond, Option, Some, None, Ok, Err, arith}
-use Rattle.std.specs.Prelude.{bytes_eq}
+use Rattle.std.proofs.Common.{◌≡◌, ℕ, suc, refl, subst, List, [], ◌∷◌, true, false, cond, Option, Some, None, Ok, Err, arith}
 use Rattle.std.specs.List.{AllByRecursion}
 use Rattle.nb_base.specs.Meanings.{Meaning, AllFit, IsAmong, IsRightWrite, IsRightPlan, IsMeaning, IsShown}
 use Rattle.nb_base.specs.Messages.{Message}
 use Rattle.nb_base.specs.Shown.{Stored, shown, seen}
 use Rattle.nb_base.specs.Sound.{IsSoundStored}
 use Rattle.nb_base.specs.declared.plan.Plan.{Plan}
-use Rattle.nb_base.specs.declared.plan.Verdict.{Verdict}
 use Rattle.nb_base.specs.declared.plan.Verdict.TheVariants as verdict
 use Rattle.nb_base.specs.declared.saga_row.Read.{Read}
 use Rattle.nb_base.specs.declared.saga_row.SagaRow.{SagaRow}
@@ -27,10 +25,9 @@ use Rattle.nb_check.specs.Rules.{script_faults, placed_messages, placed_sagas}
 use Rattle.nb_check.specs.declared.breach.CheckKind.TheVariants.{MessageTwice, SagaTwice}
 use Rattle.nb_check.specs.declared.types.SagaType.{SagaType}
 use Rattle.nb_check.specs.declared.incoming.Incoming.{Incoming}
-use Rattle.nb_eval.specs.declared.scene.State.{State}
 use Rattle.nb_eval.specs.Blocks.{blocks_do}
 use Rattle.nb_eval.specs.Meanings.{meaning_of, FitsLook}
-use Rattle.nb_eval.specs.Values.{Answer, ◌>>=◌}
+use Rattle.nb_eval.specs.Values.{Answer}
 use Rattle.nb_eval.specs.Worlds.{seen_in}
 use Rattle.nb_eval.specs.Verdicts.{nothing_done, row_writes, plan_of, world_at, handled, verdict_of, on_body, on_met, on_type, verdict_over}
 use Rattle.nb_eval.proofs.Steps.{left-nil, right-nil, all-both}
@@ -39,9 +36,9 @@ use Rattle.nb_eval.proofs.SameKeys.{same_key-is}
 use Rattle.nb_eval.proofs.Kept.{IfDone, done-then}
 use Rattle.nb_eval.proofs.LocalVerdicts.{verdict-seen}
 use Rattle.nb_eval.proofs.NeverWrong.{known-message}
-use Rattle.nb_eval.proofs.RightPlan.{AreRight, fits-look, plan-apart, row-writes-right}
+use Rattle.nb_eval.proofs.RightPlan.{fits-look, plan-apart, row-writes-right}
 use Rattle.nb_eval.proofs.RightBlocks.{Ended, blocks-done}
-use Rattle.nb_eval.proofs.SagasApart.{met_sagas, sagas-apart}
+use Rattle.nb_eval.proofs.SagasApart.{sagas-apart}
 
 step-among : (n x : List ℕ) (xs : List (List ℕ)) → IsAmong n xs → IsAmong n (x ∷ xs)
 step-among n x xs h = (suc h.0, h.1)

@@ -1,6 +1,5 @@
 -- A row's name that the checker takes is said by the message alone.
-use Rattle.std.proofs.Common.{◌≡◌, ℕ, ℤ, refl, sym, ap, ◌∙◌, subst, List, [], ◌∷◌, ◌++◌, length, nat_lt, Bool, true, false, ◌&&◌, Option, Some, None, option_and_then, Ok, Err, cond, true≢false}
-use Rattle.nb_base.specs.declared.value.Field.{Field as FieldValue}
+use Rattle.std.proofs.Common.{◌≡◌, ℕ, refl, sym, ap, ◌∙◌, subst, List, [], ◌∷◌, ◌++◌, length, nat_lt, true, false, ◌&&◌, Option, Some, None, option_and_then, Ok, Err, cond, true≢false}
 use Rattle.nb_base.specs.declared.value.Key.{Key}
 use Rattle.nb_base.specs.declared.value.Key.TheVariants as key
 use Rattle.nb_base.specs.declared.value.Value.{Value}
@@ -11,10 +10,9 @@ use Rattle.nb_script.specs.declared.expr.Constant.{Constant as ConstantWord}
 use Rattle.nb_script.specs.declared.expr.Constant.TheVariants as word
 use Rattle.nb_script.specs.declared.expr.Function.{Function}
 use Rattle.nb_script.specs.declared.expr.Function.TheVariants as function
-use Rattle.nb_script.specs.declared.expr.Holder.{Holder}
 use Rattle.nb_script.specs.declared.expr.Holder.TheVariants as holder
 use Rattle.nb_script.specs.Grammar.{Term, Number, Quoted, Constant, Field, Name, Call, Paren, Prefix, Infix}
-use Rattle.nb_check.specs.Breaches.{breach, unless_true}
+use Rattle.nb_check.specs.Breaches.{unless_true}
 use Rattle.nb_check.specs.Keys as keys
 use Rattle.nb_check.specs.Keys.{text_in, is_join, static_text, message_value, constant_text, call_text, key_if_short, key_of, row_key}
 use Rattle.nb_check.specs.Kinds.{name_faults, is_id, is_text_function, is_message_field}
@@ -24,10 +22,10 @@ use Rattle.nb_check.specs.declared.sight.Sight.{Sight}
 use Rattle.nb_eval.specs.declared.scene.State.{State}
 use Rattle.nb_eval.specs.declared.stop.Stop.TheVariants as stop
 use Rattle.nb_eval.specs.declared.stop.Limit.TheVariants.{TooLong}
-use Rattle.nb_eval.specs.Values.{Answer, ◌>>=◌, found, short, joined, both, shown, spelled}
+use Rattle.nb_eval.specs.Values.{Answer, ◌>>=◌, found, short, both, shown}
 use Rattle.nb_eval.specs.Worlds.{World}
 use Rattle.nb_eval.specs.Expressions.{constant_value, row_name, value_of}
-use Rattle.nb_eval.proofs.Steps.{left-nil, right-nil, and-left, and-right, is-true, bind-ok}
+use Rattle.nb_eval.proofs.Steps.{left-nil, right-nil, is-true, bind-ok}
 
 -- what is known of the message before anything is read
 abbrev pub known_of : World → Known

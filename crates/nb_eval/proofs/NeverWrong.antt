@@ -1,5 +1,5 @@
 -- A checked script never meets a value of a wrong kind.
-use Rattle.std.proofs.Common.{◌≡◌, ◌≤◌, ◌<◌, ◌+◌, ◌^◌, ℕ, zero, suc, refl, sym, ap, ◌∙◌, subst, List, [], ◌∷◌, ◌++◌, length, slice_get, nat_lt, Bool, true, false, ◌&&◌, Option, Some, None, option_map, option_and_then, Ok, Err, cond, true≢false, arith}
+use Rattle.std.proofs.Common.{◌≡◌, ◌≤◌, ◌<◌, ◌+◌, ◌^◌, ℕ, zero, suc, refl, sym, ap, ◌∙◌, subst, List, [], ◌∷◌, ◌++◌, length, slice_get, nat_lt, true, false, Option, Some, None, option_map, option_and_then, Ok, Err, cond, arith}
 use Rattle.std.proofs.lemmas.Bool.{ltb-false}
 use Rattle.std.specs.List.{AllByRecursion}
 use Rattle.std.specs.Str.{bytes_eq}
@@ -17,20 +17,17 @@ use Rattle.nb_script.specs.declared.item.Finder.{Finder}
 use Rattle.nb_script.specs.declared.item.Finder.TheVariants.{Start, Find}
 use Rattle.nb_script.specs.Grammar.{Braces, ItemTerm, Message as MessageTerm, Handler, Saga}
 use Rattle.nb_check.specs.Blocks.{Role, Handles, Finds, Answers, BlockTerm, blocks}
-use Rattle.nb_check.specs.Bodies.{decoded}
 use Rattle.nb_check.specs.Breaches.{again, twice}
 use Rattle.nb_check.specs.Checks.{declared_names, body_fields, fields_by}
 use Rattle.nb_check.specs.Declarations.{type_text, declared_all, messages, names_of, sagas}
 use Rattle.nb_check.specs.Fits.{kind_of, fits, fits_if, fits_type, saga_named}
 use Rattle.nb_check.specs.Keys.{value_in}
-use Rattle.nb_check.specs.Kinds.{kind_in}
 use Rattle.nb_check.specs.Meets.{incoming, incoming_as, incoming_of, is_met, number_if, met_from}
-use Rattle.nb_check.specs.Rules.{script_faults, sight, placed_messages, placed_sagas}
+use Rattle.nb_check.specs.Rules.{script_faults, sight, placed_messages}
 use Rattle.nb_check.specs.Statements.{fields_of, braces_faults}
 use Rattle.nb_check.specs.declared.breach.CheckKind.TheVariants.{MessageTwice}
 use Rattle.nb_check.specs.declared.breach.Placed.{Placed}
 use Rattle.nb_check.specs.declared.incoming.Incoming.{Incoming}
-use Rattle.nb_check.specs.declared.sight.SagaSight.{SagaSight}
 use Rattle.nb_check.specs.declared.types.Declared.{Declared}
 use Rattle.nb_check.specs.declared.types.MessageType.{MessageType}
 use Rattle.nb_check.specs.declared.types.SagaType.{SagaType}
@@ -47,7 +44,7 @@ use Rattle.nb_eval.proofs.Steps.{left-nil, right-nil, and-left}
 use Rattle.nb_eval.proofs.SameKeys.{bytes-is, bytes-refl}
 use Rattle.nb_eval.proofs.Sights.{declared, instance_sight, saga_sight_of, sight_of, Good, Fine, good-bind, kind_if, kind-declared}
 use Rattle.nb_eval.proofs.SoundStmts.{within-good}
-use Rattle.nb_eval.proofs.CheckedBlocks.{others-differ, not-both, IsGoodRole, type_sight, sight_if, role_sight, IsTyped, IsGoodType, IsGoodBlock, good-blocks}
+use Rattle.nb_eval.proofs.CheckedBlocks.{others-differ, not-both, IsGoodRole, type_sight, sight_if, role_sight, IsGoodType, IsGoodBlock, good-blocks}
 use Rattle.nb_eval.proofs.Instances.{stored-sight, new-sight, decoded-kinds}
 
 value-found : (o : Option Value) (k : FieldKind) → kind_if o ≡ Some k → Good (λ v. kind_of v ≡ k) (found o)

@@ -1,5 +1,5 @@
 -- A plan writes nowhere else than where the message's keys lead.
-use Rattle.std.proofs.Common.{◌≡◌, ℕ, suc, ℤ, ◌+◌, refl, sym, ap, ◌∙◌, subst, List, [], ◌∷◌, ◌++◌, slice_get, Bool, true, false, Option, Some, None, Ok, Err, cond, true≢false}
+use Rattle.std.proofs.Common.{◌≡◌, ℕ, suc, ℤ, ◌+◌, refl, sym, ap, ◌∙◌, subst, List, [], ◌∷◌, ◌++◌, slice_get, true, false, Option, Some, None, Ok, Err, cond, true≢false}
 use Rattle.std.specs.List.{AllByRecursion}
 use Rattle.std.specs.FinMap as map
 use Rattle.std.specs.Str.{bytes_eq}
@@ -12,7 +12,6 @@ use Rattle.nb_base.specs.declared.plan.SagaRef.{SagaRef}
 use Rattle.nb_base.specs.declared.plan.SagaRef.TheVariants as saga_ref
 use Rattle.nb_base.specs.declared.plan.Verdict.TheVariants as verdict
 use Rattle.nb_base.specs.declared.plan.Write.{Write}
-use Rattle.nb_base.specs.declared.saga_key.SagaKey.{SagaKey}
 use Rattle.nb_base.specs.declared.saga_row.SagaRow.{SagaRow}
 use Rattle.nb_base.specs.declared.saga_row.Seen.{Seen}
 use Rattle.nb_base.specs.declared.saga_row.Seen.TheVariants.{Absent, Saga as SagaSeen, Row as RowSeen}

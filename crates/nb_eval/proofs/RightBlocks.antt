@@ -1,18 +1,14 @@
 -- The blocks of a checked script leave changes and intents that keep sound tables sound.
-use Rattle.std.proofs.Common.{◌≡◌, ◌≢◌, ◌≤◌, ◌<◌, ◌+◌, ◌^◌, ℕ, ℤ, pos, refl, sym, ap, ◌∙◌, subst, List, [], ◌∷◌, ◌++◌, length, nat_lt, Bool, true, false, ◌&&◌, Option, Some, None, Ok, Err, cond, true≢false, arith}
+use Rattle.std.proofs.Common.{◌≡◌, ◌≢◌, ◌≤◌, ◌+◌, ◌^◌, ℕ, refl, sym, ap, ◌∙◌, subst, List, [], ◌∷◌, ◌++◌, nat_lt, true, false, Option, Some, None, Ok, Err, cond, arith}
 use Rattle.std.proofs.lemmas.Bool.{ltb-true}
 use Rattle.std.specs.List.{AllByRecursion}
 use Rattle.std.specs.FinMap as map
 use Rattle.std.specs.Str.{bytes_eq}
-use Rattle.nb_base.specs.Meanings.{Meaning, AllFit, IsAmong, IsPutRight, AreApart, IsRightWrite}
+use Rattle.nb_base.specs.Meanings.{Meaning, IsAmong, IsPutRight}
 use Rattle.nb_base.specs.Shown.{Stored, saga_seen, shown, with_id}
-use Rattle.nb_base.specs.Sound.{IsSoundSaga, IsSoundStored}
-use Rattle.nb_base.specs.declared.plan.SagaRef.TheVariants as saga_ref
-use Rattle.nb_base.specs.declared.plan.Write.{Write}
+use Rattle.nb_base.specs.Sound.{IsSoundStored}
 use Rattle.nb_base.specs.declared.saga_key.SagaKey.{SagaKey}
 use Rattle.nb_base.specs.declared.saga_row.SagaRow.{SagaRow}
-use Rattle.nb_base.specs.declared.saga_row.Seen.TheVariants.{Absent, Saga as SagaSeen, Row as RowSeen}
-use Rattle.nb_base.specs.declared.value.Field.{Field}
 use Rattle.nb_base.specs.declared.value.Key.TheVariants as key
 use Rattle.nb_base.specs.declared.value.Value.{Value}
 use Rattle.nb_script.specs.declared.item.FieldKind.{FieldKind}
@@ -37,7 +33,7 @@ use Rattle.nb_eval.specs.declared.stop.Stop.TheVariants as stop
 use Rattle.nb_eval.specs.Values.{Answer, ◌>>=◌, found}
 use Rattle.nb_eval.specs.Worlds.{World, saga_there}
 use Rattle.nb_eval.specs.Statements.{within}
-use Rattle.nb_eval.specs.Blocks.{stored_instance, new_instance, saga_write, ended, enter, in_block, numbered, on_absent, on_found, on_answer, block_does, term_does, blocks_do}
+use Rattle.nb_eval.specs.Blocks.{stored_instance, new_instance, saga_write, ended, enter, in_block, on_absent, on_found, on_answer, block_does, term_does, blocks_do}
 use Rattle.nb_eval.specs.Meanings.{FitsLook}
 use Rattle.nb_check.specs.Sends.{braces_sends, blocks_sends}
 use Rattle.nb_eval.proofs.Steps.{and-left, all-left, all-right}
@@ -45,10 +41,10 @@ use Rattle.nb_eval.proofs.SameKeys.{bytes-is}
 use Rattle.nb_eval.proofs.Sights.{declared, instance_sight, saga_sight_of, sight_of, Good, kind_if, kind-declared}
 use Rattle.nb_eval.proofs.SoundStmts.{within-good}
 use Rattle.nb_eval.proofs.Kept.{IfDone, done-bind, done-then, AreOnce, FineIntents, SameSaga, Kept, within-kept}
-use Rattle.nb_eval.proofs.CheckedBlocks.{state_declared, type_sight, sight_if, role_sight, IsTyped, IsGoodType, IsGoodRole, IsGoodBlock}
+use Rattle.nb_eval.proofs.CheckedBlocks.{state_declared, type_sight, sight_if, role_sight, IsGoodType, IsGoodRole, IsGoodBlock}
 use Rattle.nb_eval.proofs.Instances.{stored-sight, new-sight}
 use Rattle.nb_eval.proofs.SagasApart.{role_sagas, met_sagas, AllApart}
-use Rattle.nb_eval.proofs.RightPlan.{IsOfType, IsMadeBy, AreRight, IsPast, ended-right, none-changed, one-less, corr-shown, id-shown}
+use Rattle.nb_eval.proofs.RightPlan.{IsOfType, IsMadeBy, AreRight, ended-right, none-changed, one-less, id-shown}
 
 sight-is : (a b : SagaSight) → Some a ≡ Some b → a ≡ b
 sight-is a b e = cc

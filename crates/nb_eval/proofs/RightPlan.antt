@@ -1,15 +1,13 @@
 -- The plans of a checked script keep sound tables sound.
-use Rattle.std.proofs.Common.{◌≡◌, ◌≢◌, ◌≤◌, ◌<◌, ◌+◌, ◌^◌, ℕ, ℤ, pos, zero, suc, refl, sym, ap, ◌∙◌, subst, List, [], ◌∷◌, ◌++◌, length, slice_get, nat_lt, Bool, true, false, ◌&&◌, Option, Some, None, is_some, Ok, Err, cond, true≢false, arith}
+use Rattle.std.proofs.Common.{◌≡◌, ◌≢◌, ◌≤◌, ◌<◌, ◌+◌, ℕ, ℤ, pos, refl, sym, ap, ◌∙◌, subst, List, [], ◌∷◌, ◌++◌, length, Bool, true, false, ◌&&◌, Option, Some, None, cond, true≢false, arith}
 use Rattle.std.specs.Prelude.{negsuc, int_le, nat_le, nat_abs, map as map_list}
 use Rattle.std.proofs.lemmas.Bool.{leb-true, le-leb}
 use Rattle.std.specs.List.{AllByRecursion, IsDistinct}
 use Rattle.std.specs.FinMap as map
 use Rattle.std.specs.Str.{bytes_eq}
-use Rattle.nb_base.specs.Meanings.{Meaning, AllFit, IsAmong, Place, saga_at, row_at, place_of, block_of, IsApart, AreApart, IsPutRight, IsRightWrite, CanGo, IsRightPlan}
-use Rattle.nb_base.specs.Messages.{Message}
+use Rattle.nb_base.specs.Meanings.{Meaning, AllFit, saga_at, row_at, place_of, block_of, IsApart, AreApart, IsPutRight, IsRightWrite}
 use Rattle.nb_base.specs.Shown.{Stored, saga_seen, shown, with_id}
-use Rattle.nb_base.specs.Sound.{CanCorrelate, HaveDistinctNames, IsSoundSaga, IsSoundStored}
-use Rattle.nb_base.specs.declared.plan.Plan.{Plan}
+use Rattle.nb_base.specs.Sound.{CanCorrelate, HaveDistinctNames}
 use Rattle.nb_base.specs.declared.plan.SagaRef.{SagaRef}
 use Rattle.nb_base.specs.declared.plan.SagaRef.TheVariants as saga_ref
 use Rattle.nb_base.specs.declared.plan.Write.{Write}
@@ -25,18 +23,17 @@ use Rattle.nb_base.specs.declared.value.Value.{Value}
 use Rattle.nb_base.specs.declared.value.Value.TheVariants.{Int, Text, Bool as Truth}
 use Rattle.nb_script.specs.declared.item.FieldKind.{FieldKind}
 use Rattle.nb_script.specs.declared.item.FieldKind.TheVariants as kind
-use Rattle.nb_check.specs.Fits.{kind_of, is_there, is_field, fits_fields, fits_type, fits, fits_if, saga_named}
+use Rattle.nb_check.specs.Fits.{kind_of, is_there, is_field, fits_fields, fits, fits_if, saga_named}
 use Rattle.nb_check.specs.Kinds.{is_kind}
 use Rattle.nb_check.specs.declared.types.Declared.{Declared}
 use Rattle.nb_check.specs.declared.types.SagaType.{SagaType}
 use Rattle.nb_check.specs.declared.types.StateField.{StateField}
 use Rattle.nb_eval.specs.declared.scene.Instance.{Instance}
-use Rattle.nb_eval.specs.declared.scene.State.{State}
 use Rattle.nb_eval.specs.declared.scene.Touched.{Touched}
-use Rattle.nb_eval.specs.Blocks.{put_saga, completed_write, instance_write, saga_write}
+use Rattle.nb_eval.specs.Blocks.{put_saga, completed_write, instance_write}
 use Rattle.nb_eval.specs.Meanings.{FitsLook}
-use Rattle.nb_eval.specs.Verdicts.{erased, row_write, row_writes}
-use Rattle.nb_eval.proofs.Steps.{and-left, and-right, all-both}
+use Rattle.nb_eval.specs.Verdicts.{row_write, row_writes}
+use Rattle.nb_eval.proofs.Steps.{all-both}
 use Rattle.nb_eval.proofs.SameKeys.{bytes-refl}
 use Rattle.nb_eval.proofs.Sights.{declared}
 use Rattle.nb_eval.proofs.Kept.{AreOnce}

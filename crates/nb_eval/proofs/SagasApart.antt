@@ -1,20 +1,19 @@
 -- The blocks that a message meets are of sagas that differ.
-use Rattle.std.proofs.Common.{◌≡◌, ◌≢◌, ◌≤◌, ◌+◌, ℕ, zero, suc, refl, sym, ap, ◌∙◌, subst, List, [], ◌∷◌, ◌++◌, length, Bool, true, false, not, ◌&&◌, Option, Some, None, cond, true≢false, arith}
+use Rattle.std.proofs.Common.{◌≡◌, ◌≢◌, ◌≤◌, ℕ, refl, sym, ap, ◌∙◌, subst, List, [], ◌∷◌, ◌++◌, length, Bool, true, false, not, ◌&&◌, cond, true≢false, arith}
 use Rattle.std.specs.List.{AllByRecursion}
 use Rattle.std.specs.Str.{bytes_eq}
-use Rattle.nb_script.specs.declared.item.Answer.{Answer as AnswerWord}
 use Rattle.nb_script.specs.declared.item.Answer.TheVariants.{Reply, Timeout}
-use Rattle.nb_script.specs.Grammar.{PartTerm, ByField, ById, SagaTerm, ItemTerm, Message, Handler, Saga}
-use Rattle.nb_check.specs.Blocks.{Role, Handles, Finds, Answers, BlockTerm, handler_block, part_block, part_blocks, item_blocks, blocks}
+use Rattle.nb_script.specs.Grammar.{PartTerm, ByField, ById, ItemTerm, Message, Handler, Saga}
+use Rattle.nb_check.specs.Blocks.{Role, Handles, Finds, Answers, BlockTerm, handler_block, part_block, part_blocks, blocks}
 use Rattle.nb_check.specs.Breaches.{again, twice}
-use Rattle.nb_check.specs.Declarations.{type_text, messages}
-use Rattle.nb_check.specs.Meets.{addresses, fits_role, is_met}
-use Rattle.nb_check.specs.Rules.{placed_type, placed_messages, placed_saga, placed_sagas, placed_part, placed_parts, placed_timeout, placed_timeouts, declared_faults, saga_faults, item_faults, items_faults, script_faults}
-use Rattle.nb_check.specs.declared.breach.CheckKind.TheVariants.{MessageTwice, SagaTwice, PartTwice}
+use Rattle.nb_check.specs.Declarations.{type_text}
+use Rattle.nb_check.specs.Meets.{addresses, is_met}
+use Rattle.nb_check.specs.Rules.{placed_type, placed_sagas, placed_parts, placed_timeouts, declared_faults, saga_faults, item_faults, items_faults}
+use Rattle.nb_check.specs.declared.breach.CheckKind.TheVariants.{SagaTwice, PartTwice}
 use Rattle.nb_check.specs.declared.breach.Placed.{Placed}
 use Rattle.nb_check.specs.declared.incoming.Incoming.{Incoming}
 use Rattle.nb_check.specs.declared.types.MessageType.{MessageType}
-use Rattle.nb_eval.proofs.Steps.{left-nil, right-nil, and-left, and-right, all-left, all-right, all-both}
+use Rattle.nb_eval.proofs.Steps.{left-nil, right-nil, and-left, and-right, all-both}
 use Rattle.nb_eval.proofs.SameKeys.{bytes-is, bytes-refl}
 use Rattle.nb_eval.proofs.CheckedBlocks.{others-differ, not-both}
 

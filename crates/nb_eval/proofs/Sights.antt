@@ -1,18 +1,17 @@
 -- What is in sight, by what is there, and answers that are no wrong kind.
-use Rattle.std.proofs.Common.{◌≡◌, ℕ, refl, sym, ap, ◌∙◌, subst, List, [], ◌∷◌, ◌++◌, Bool, true, false, Option, Some, None, option_map, Ok, Err, cond, true≢false}
+use Rattle.std.proofs.Common.{◌≡◌, ℕ, refl, sym, subst, List, [], ◌∷◌, Bool, true, false, Option, Some, None, Ok, Err, cond, true≢false}
 use Rattle.std.specs.Str.{bytes_eq}
 use Rattle.nb_base.specs.declared.value.Field.{Field}
 use Rattle.nb_base.specs.declared.value.Value.{Value}
 use Rattle.nb_base.specs.declared.value.Value.TheVariants.{Int, Text, Bool as Truth}
 use Rattle.nb_script.specs.declared.item.FieldKind.{FieldKind}
 use Rattle.nb_script.specs.declared.item.FieldKind.TheVariants as kind
-use Rattle.nb_check.specs.Breaches.{unless_true, unless_some}
+use Rattle.nb_check.specs.Breaches.{unless_some}
 use Rattle.nb_check.specs.Fits.{kind_of}
 use Rattle.nb_check.specs.Keys.{value_in}
-use Rattle.nb_check.specs.Kinds.{is_kind, kind_in, local_in, known, unless_kind, wants}
+use Rattle.nb_check.specs.Kinds.{is_kind, kind_in, local_in, known, unless_kind}
 use Rattle.nb_check.specs.declared.breach.CheckKind.{CheckKind}
 use Rattle.nb_check.specs.declared.breach.CheckKind.TheVariants.{WrongType}
-use Rattle.nb_check.specs.declared.sight.Judgement.{Judgement}
 use Rattle.nb_check.specs.declared.sight.Local.{Local}
 use Rattle.nb_check.specs.declared.sight.SagaSight.{SagaSight}
 use Rattle.nb_check.specs.declared.sight.Sight.{Sight}

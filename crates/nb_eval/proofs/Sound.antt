@@ -1,5 +1,5 @@
 -- A checked expression never meets a value of a wrong kind.
-use Rattle.std.proofs.Common.{◌≡◌, ℕ, ℤ, pos, neg_ℤ, ◌+ℤ◌, refl, sym, ap, ◌∙◌, subst, List, [], ◌∷◌, ◌++◌, length, nat_lt, Bool, true, false, not, ◌&&◌, is_some, Option, Some, None, Ok, Err, cond, true≢false}
+use Rattle.std.proofs.Common.{◌≡◌, ℕ, ℤ, neg_ℤ, ◌+ℤ◌, refl, sym, ap, ◌∙◌, subst, List, [], ◌++◌, length, nat_lt, Bool, true, false, not, ◌&&◌, is_some, Option, Some, None, Ok, Err, cond, true≢false}
 use Rattle.std.specs.Prelude.{◌-ℤ◌, ◌*ℤ◌}
 use Rattle.std.specs.Ordering.{is_lt, is_le, is_gt, is_ge}
 use Rattle.std.specs.declared.cmp.Ordering.{Ordering}
@@ -32,9 +32,9 @@ use Rattle.nb_eval.specs.Values as values
 use Rattle.nb_eval.specs.Values.{Answer, ◌>>=◌, found, fits, in_range, short, number, arithmetic, joined, same, order, compared, applied, right_of, decided, binary, unary, shown, measured}
 use Rattle.nb_eval.specs.Worlds.{World, row_now, all_fields, saga_value}
 use Rattle.nb_eval.specs.Expressions.{constant_value, row_name, number_or_zero, call_value, value_of}
-use Rattle.nb_eval.proofs.Steps.{left-nil, right-nil, and-left, and-right, is-true}
+use Rattle.nb_eval.proofs.Steps.{left-nil, right-nil, and-left, is-true}
 use Rattle.nb_eval.proofs.Names.{is-join}
-use Rattle.nb_eval.proofs.Sights.{sight_of, saga_sight_of, IsFault, Good, HasKind, Fine, good-bind, kind-is, known-field, known-local, wanted, value-int, value-text, value-truth, declared}
+use Rattle.nb_eval.proofs.Sights.{sight_of, saga_sight_of, HasKind, Fine, good-bind, kind-is, known-field, known-local, wanted, value-int, value-text, value-truth, declared}
 
 -- ---- limits
 

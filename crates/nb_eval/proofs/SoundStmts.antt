@@ -1,5 +1,5 @@
 -- Checked statements never meet a value of a wrong kind, and what is in sight keeps its kinds.
-use Rattle.std.proofs.Common.{◌≡◌, ℕ, ℤ, pos, ◌+ℤ◌, ◌+◌, refl, sym, ap, ◌∙◌, subst, List, [], ◌∷◌, ◌++◌, length, take, nat_lt, nat_le, Bool, true, false, not, is_none, Option, Some, None, Ok, Err, cond, true≢false}
+use Rattle.std.proofs.Common.{◌≡◌, ℕ, ℤ, pos, ◌+ℤ◌, ◌+◌, refl, sym, ap, ◌∙◌, subst, List, [], ◌∷◌, ◌++◌, length, take, nat_lt, nat_le, Bool, true, false, not, Option, Some, None, Ok, Err, cond, true≢false}
 use Rattle.std.specs.Prelude.{negsuc}
 use Rattle.std.specs.Str.{bytes_eq}
 use Rattle.nb_base.specs.declared.plan.Intent.{Intent}
@@ -7,7 +7,6 @@ use Rattle.nb_base.specs.declared.plan.Target.{Target}
 use Rattle.nb_base.specs.declared.plan.Target.TheVariants as target
 use Rattle.nb_base.specs.declared.value.Field.{Field}
 use Rattle.nb_base.specs.declared.value.Value.{Value}
-use Rattle.nb_base.specs.declared.value.Value.TheVariants.{Int, Text, Bool as Truth}
 use Rattle.nb_script.specs.declared.item.FieldKind.{FieldKind}
 use Rattle.nb_script.specs.declared.item.FieldKind.TheVariants as kind
 use Rattle.nb_script.specs.Grammar.{Term, ArgTerm, MakeTerm, RowTerm, AfterTerm}
@@ -22,7 +21,6 @@ use Rattle.nb_check.specs.Statements.{fields_of, takes, takes_in, args_faults, m
 use Rattle.nb_check.specs.declared.breach.CheckKind.TheVariants.{FieldTwice, SetsCorrelation}
 use Rattle.nb_check.specs.declared.sight.Judgement.{Judgement}
 use Rattle.nb_check.specs.declared.sight.Local.{Local}
-use Rattle.nb_check.specs.declared.sight.SagaSight.{SagaSight}
 use Rattle.nb_check.specs.declared.sight.Sight.{Sight}
 use Rattle.nb_check.specs.declared.types.Declared.{Declared}
 use Rattle.nb_check.specs.declared.types.MessageType.{MessageType}
@@ -35,10 +33,10 @@ use Rattle.nb_eval.specs.Values.{Answer, ◌>>=◌, found, fits, in_range, whole
 use Rattle.nb_eval.specs.Worlds.{World, named, all_fields, put_row}
 use Rattle.nb_eval.specs.Expressions.{row_name, number_or_zero, value_of, whole_of, text_of, truth_of, row_at}
 use Rattle.nb_eval.specs.Making.{made, delay_in, seconds_of, timed, delay_of, address, answered, intent, with_intent, sent, target_of}
-use Rattle.nb_eval.specs.Statements.{behind, with_field, with_fields, set_to, complete, with_name, leave, left, chosen, run, in_turn, within, otherwise}
+use Rattle.nb_eval.specs.Statements.{behind, with_field, with_fields, set_to, with_name, leave, left, chosen, run, in_turn, within, otherwise}
 use Rattle.nb_eval.proofs.Steps.{left-nil, right-nil, is-true}
 use Rattle.nb_eval.proofs.SameKeys.{bytes-is}
-use Rattle.nb_eval.proofs.Sights.{declared, locals, instance_sight, saga_sight_of, sight_of, IsFault, Good, HasKind, Fine, good-bind, kind-is, kind_if, kind-declared, wanted, value-int, value-text, value-truth}
+use Rattle.nb_eval.proofs.Sights.{declared, locals, instance_sight, saga_sight_of, sight_of, Good, HasKind, Fine, good-bind, kind-is, kind_if, kind-declared, wanted, value-int, value-text, value-truth}
 use Rattle.nb_eval.proofs.Sound.{sound, named-fine, name-text}
 
 -- ---- values of a kind

@@ -1,8 +1,7 @@
 -- Answers one after the other, and lists of faults that are empty.
-use Rattle.std.proofs.Common.{◌≡◌, ℕ, refl, sym, ap, ◌∙◌, List, [], ◌∷◌, ◌++◌, Bool, true, false, ◌&&◌, Option, Some, None, Ok, Err, cond, true≢false}
+use Rattle.std.proofs.Common.{◌≡◌, ℕ, refl, sym, List, [], ◌∷◌, ◌++◌, Bool, true, false, ◌&&◌, Ok, Err, true≢false}
 use Rattle.std.specs.List.{AllByRecursion}
-use Rattle.nb_check.specs.Breaches.{breach, unless_true}
-use Rattle.nb_check.specs.declared.breach.Breach.{Breach}
+use Rattle.nb_check.specs.Breaches.{unless_true}
 use Rattle.nb_check.specs.declared.breach.CheckKind.{CheckKind}
 use Rattle.nb_eval.specs.Values.{Answer, ◌>>=◌}
 

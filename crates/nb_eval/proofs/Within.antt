@@ -1,5 +1,5 @@
 -- Statements store to rows that their keys name, and to no others.
-use Rattle.std.proofs.Common.{◌≡◌, ℕ, ℤ, ◌+ℤ◌, ◌+◌, refl, sym, ap, ◌∙◌, subst, List, [], ◌∷◌, ◌++◌, length, nat_lt, nat_le, Bool, true, false, Option, Some, None, Ok, Err, cond}
+use Rattle.std.proofs.Common.{◌≡◌, ℕ, ℤ, ◌+ℤ◌, ◌+◌, subst, List, [], ◌∷◌, ◌++◌, length, nat_lt, nat_le, Bool, true, false, Option, Some, None, Ok, Err, cond}
 use Rattle.std.specs.List.{AllByRecursion}
 use Rattle.std.specs.Str.{bytes_eq}
 use Rattle.nb_base.specs.declared.plan.Intent.{Intent}
@@ -11,13 +11,13 @@ use Rattle.nb_base.specs.declared.value.Key.TheVariants.{Row}
 use Rattle.nb_base.specs.declared.value.Value.{Value}
 use Rattle.nb_script.specs.declared.item.Finder.{Finder}
 use Rattle.nb_script.specs.declared.item.Finder.TheVariants.{Start, Find}
-use Rattle.nb_script.specs.Grammar.{Term, MakeTerm, RowTerm}
+use Rattle.nb_script.specs.Grammar.{MakeTerm, RowTerm}
 use Rattle.nb_script.specs.Grammar.{Phrase, Let, Set, Put, Add, Erase, Send, Publish, Reply, Timeout, Complete, Refuse, If, Phrases, Nil, Then, Braces, Brace, Otherwise, Nothing, Last, Chain}
 use Rattle.nb_script.specs.declared.item.FieldKind.TheVariants as kind
 use Rattle.nb_check.specs.Blocks.{Role, Handles, Finds, Answers, BlockTerm}
 use Rattle.nb_check.specs.Fits.{saga_named}
-use Rattle.nb_check.specs.Keys.{value_in, row_key, term_keys, named_row_keys, phrase_keys, phrases_keys, braces_keys, otherwise_keys, role_keys, block_keys, met_keys}
-use Rattle.nb_check.specs.Kinds.{faults, name_faults}
+use Rattle.nb_check.specs.Keys.{value_in, term_keys, named_row_keys, phrase_keys, phrases_keys, braces_keys, otherwise_keys, role_keys, block_keys, met_keys}
+use Rattle.nb_check.specs.Kinds.{faults}
 use Rattle.nb_check.specs.Meets.{is_met}
 use Rattle.nb_check.specs.Statements.{value_faults, row_faults, after, phrase_faults, phrases_faults, braces_faults, otherwise_faults}
 use Rattle.nb_check.specs.declared.incoming.Incoming.{Incoming}
@@ -30,10 +30,10 @@ use Rattle.nb_eval.specs.declared.scene.Touched.{Touched}
 use Rattle.nb_eval.specs.declared.stop.Stop.TheVariants as stop
 use Rattle.nb_eval.specs.declared.stop.Limit.TheVariants.{TooMany, TooLarge}
 use Rattle.nb_eval.specs.Values.{Answer, ◌>>=◌, found, in_range}
-use Rattle.nb_eval.specs.Worlds.{World, stored, put_row, saga_there}
-use Rattle.nb_eval.specs.Expressions.{row_name, number_or_zero, value_of, whole_of, text_of, truth_of, row_at}
+use Rattle.nb_eval.specs.Worlds.{World, stored, put_row}
+use Rattle.nb_eval.specs.Expressions.{number_or_zero, value_of, whole_of, text_of, truth_of, row_at}
 use Rattle.nb_eval.specs.Making.{made, timed, delay_of, answered, intent, with_intent, sent, target_of}
-use Rattle.nb_eval.specs.Statements.{with_field, with_fields, set_to, complete, with_name, leave, chosen, run, in_turn, within, otherwise}
+use Rattle.nb_eval.specs.Statements.{with_field, with_fields, set_to, with_name, leave, chosen, run, in_turn, within, otherwise}
 use Rattle.nb_eval.specs.Blocks.{stored_instance, new_instance, ended, enter, in_block, numbered, on_absent, on_found, on_answer, block_does, term_does, blocks_do}
 use Rattle.nb_eval.proofs.Steps.{left-nil, right-nil, all-left, all-right}
 use Rattle.nb_eval.proofs.Names.{known_of, named-key}

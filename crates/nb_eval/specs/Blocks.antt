@@ -1,5 +1,5 @@
 -- What the blocks of handlers and sagas do, and all the blocks that a message meets.
-use Rattle.std.specs.Prelude.{ℕ, ◌+◌, ◌^◌, nat_lt, nat_abs, List, [], ◌∷◌, ◌++◌, Bool, true, false, if◌then◌else◌, Option, Some, None, Ok, Err}
+use Rattle.std.specs.Prelude.{◌≡◌, ℕ, ◌+◌, ◌^◌, nat_lt, nat_abs, List, [], ◌∷◌, ◌++◌, false, if◌then◌else◌, Option, Some, None, slice_get, Ok, Err}
 use Rattle.nb_base.specs.declared.plan.SagaRef.{SagaRef}
 use Rattle.nb_base.specs.declared.plan.SagaRef.TheVariants as saga_ref
 use Rattle.nb_base.specs.declared.plan.Write.{Write}
@@ -10,8 +10,9 @@ use Rattle.nb_base.specs.declared.value.Key.TheVariants as key
 use Rattle.nb_base.specs.declared.value.Value.{Value}
 use Rattle.nb_script.specs.declared.item.Finder.{Finder}
 use Rattle.nb_script.specs.declared.item.Finder.TheVariants.{Start, Find}
-use Rattle.nb_script.specs.Grammar.{Braces}
+use Rattle.nb_script.specs.Grammar.{Braces, ItemTerm, Message, Handler, Saga}
 use Rattle.nb_check.specs.Blocks.{Role, Handles, Finds, Answers, BlockTerm}
+use Rattle.nb_check.specs.Declarations.{saga_type}
 use Rattle.nb_check.specs.Fits.{saga_named, first_field, lifted}
 use Rattle.nb_check.specs.Keys.{value_in}
 use Rattle.nb_check.specs.Meets.{is_met}
@@ -121,3 +122,20 @@ abbrev pub blocks_do : List SagaType → Incoming → ℕ → List BlockTerm →
 blocks_do types m block [] w s = Ok s
 blocks_do types m block (b ∷ bs) w s =
     if is_met m b then term_does types block b w s >>= (λ t. blocks_do types m (block + 1) bs w t) else blocks_do types m block bs w s
+
+-- ---- blocks by their numbers
+
+abbrev pub at_does : List SagaType → ℕ → Option BlockTerm → World → State → Answer State
+at_does types block None w s = Err stop.Wrong
+at_does types block (Some b) w s = term_does types block b w s
+
+-- the blocks with these numbers one after the other, of which the first has this place
+abbrev pub numbers_do : List SagaType → List BlockTerm → ℕ → List ℕ → World → State → Answer State
+numbers_do types bs block [] w s = Ok s
+numbers_do types bs block (n ∷ ns) w s = at_does types block (slice_get bs n) w s >>= λ t. numbers_do types bs (block + 1) ns w t
+
+-- a saga's name leads to its declaration
+abbrev pub IsDeclared : List SagaType → ItemTerm → Type 0
+IsDeclared types (Message at n o fs c) = Unit {0}
+IsDeclared types (Handler at n b) = Unit {0}
+IsDeclared types (Saga s) = saga_named s.name types ≡ Some (saga_type s)

@@ -1,7 +1,7 @@
 -- The faults of messages, with the names and the texts under which they are reported.
-use Rattle.std.specs.Prelude.{ℕ, List, [], ◌++◌, Bool, true, false, codes, unwrap_or}
+use Rattle.std.specs.Prelude.{ℕ, List, [], ◌++◌, Bool, true, false, codes}
 use Rattle.json.specs.Print.{quoted}
-use Rattle.nb_base.specs.Messages.{Message, header}
+use Rattle.nb_base.specs.Messages.{Message}
 use Rattle.nb_base.specs.declared.plan.Fault.{Fault}
 use Rattle.nb_base.specs.declared.plan.FaultKind.{FaultKind}
 use Rattle.nb_base.specs.declared.plan.FaultKind.TheVariants as kind

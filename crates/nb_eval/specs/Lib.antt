@@ -8,4 +8,3 @@ pub mod Faults
 pub mod Verdicts
 pub mod Meanings
 pub mod Reach
-pub mod Walks

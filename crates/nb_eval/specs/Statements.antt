@@ -1,5 +1,5 @@
 -- What statements do, and blocks of them.
-use Rattle.std.specs.Prelude.{◌≡◌, ℕ, ℤ, ◌+ℤ◌, List, [], ◌∷◌, ◌++◌, length, take, Bool, true, false, bytes_eq, if◌then◌else◌, Option, Some, None, Result, Ok, Err}
+use Rattle.std.specs.Prelude.{◌≡◌, ℕ, ◌+ℤ◌, List, [], ◌∷◌, ◌++◌, length, take, Bool, true, false, bytes_eq, if◌then◌else◌, Option, Some, None, Result, Ok, Err}
 use Rattle.nb_base.specs.declared.plan.Target.TheVariants as target
 use Rattle.nb_base.specs.declared.value.Field.{Field}
 use Rattle.nb_base.specs.declared.value.Value.{Value}

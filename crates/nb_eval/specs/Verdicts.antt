@@ -1,8 +1,6 @@
 -- The verdict of a script on a message, over what the tables show.
-use Rattle.std.specs.Prelude.{◌≡◌, ℕ, ℤ, List, [], ◌∷◌, ◌++◌, Option, Some, None, option_and_then, Ok, Err}
-use Rattle.nb_base.specs.Meanings.{Meaning}
+use Rattle.std.specs.Prelude.{ℕ, ℤ, List, [], ◌∷◌, ◌++◌, Option, Some, None, option_and_then, Ok, Err}
 use Rattle.nb_base.specs.Messages.{Message, header}
-use Rattle.nb_base.specs.Shown.{shown}
 use Rattle.nb_base.specs.declared.plan.Plan.{Plan}
 use Rattle.nb_base.specs.declared.plan.Verdict.{Verdict}
 use Rattle.nb_base.specs.declared.plan.Verdict.TheVariants as verdict
@@ -17,21 +15,17 @@ use Rattle.nb_base.specs.declared.value.Key.TheVariants as key
 use Rattle.nb_headers.specs.HeaderNames.{reply_to_address, saga_id, time_sent}
 use Rattle.nb_headers.specs.Moments.{read_moment}
 use Rattle.nb_headers.specs.Reads.{id_of, header_or, round_of}
-use Rattle.nb_script.specs.declared.stmt.Destination.{Destination}
-use Rattle.nb_script.specs.declared.stmt.Destination.TheVariants as to
-use Rattle.nb_script.specs.Grammar.{ItemTerm, MakeTerm}
-use Rattle.nb_script.specs.Grammar.{Phrase, Let, Set, Put, Add, Erase, Send, Publish, Reply, Timeout, Complete, Refuse, If, Phrases, Nil, Then, Braces, Brace, Otherwise, Nothing, Last, Chain}
-use Rattle.nb_check.specs.Blocks.{BlockTerm, blocks}
-use Rattle.nb_check.specs.Checks.{declared_names, body_fields, blocks_met, keys_read}
-use Rattle.nb_check.specs.Declarations.{sagas, type_text}
-use Rattle.nb_check.specs.Fits.{fits}
+use Rattle.nb_script.specs.Grammar.{ItemTerm}
+use Rattle.nb_check.specs.Blocks.{blocks}
+use Rattle.nb_check.specs.Checks.{declared_names, body_fields, blocks_met}
+use Rattle.nb_check.specs.Declarations.{sagas}
 use Rattle.nb_check.specs.Meets.{incoming}
 use Rattle.nb_check.specs.declared.incoming.Incoming.{Incoming}
 use Rattle.nb_eval.specs.declared.scene.Scene.{Scene}
 use Rattle.nb_eval.specs.declared.scene.State.{State}
 use Rattle.nb_eval.specs.declared.scene.Touched.{Touched}
 use Rattle.nb_eval.specs.Values.{Answer, ◌>>=◌}
-use Rattle.nb_eval.specs.Worlds.{World, seen_in}
+use Rattle.nb_eval.specs.Worlds.{World}
 use Rattle.nb_eval.specs.Blocks.{blocks_do}
 use Rattle.nb_eval.specs.Faults.{fault_of, undeclared, no_handler, undecodable}
 

@@ -1,5 +1,5 @@
 -- Where a message is handled, and what was done so far.
-use Rattle.std.specs.Prelude.{ℕ, ℤ, pos, negsuc, List, [], ◌∷◌, ◌++◌, bytes_eq, if◌then◌else◌, Option, Some, None, unwrap_or, is_some}
+use Rattle.std.specs.Prelude.{ℕ, ℤ, pos, negsuc, List, [], ◌∷◌, bytes_eq, if◌then◌else◌, Option, Some, None}
 use Rattle.nb_base.specs.declared.saga_row.Read.{Read}
 use Rattle.nb_base.specs.declared.saga_row.SagaRow.{SagaRow}
 use Rattle.nb_base.specs.declared.saga_row.Seen.{Seen}

@@ -1,18 +1,13 @@
-//! The blocks that a message meets.
-ghost use Rattle.std.specs.Prelude.{◌≡◌, ◌+◌, ◌++◌, ◌==◌, ◌∷◌, [], List, map, slice_get, Some, IfOk, is_some, option_copied};
-ghost use Rattle.nb_check.specs.Blocks.{Role, Handles, Finds, Answers, BlockTerm, handler_block, part_block, part_blocks, item_blocks, blocks};
+//! What the blocks that a message meets do.
+ghost use Rattle.std.specs.Prelude.{◌≡◌, slice_get, Some, option_copied};
+ghost use Rattle.nb_check.specs.Blocks.{Finds, Answers, part_block, blocks};
 ghost use Rattle.nb_check.specs.Declarations.{saga_type, sagas};
 ghost use Rattle.nb_check.specs.Fits.{saga_named};
 ghost use Rattle.nb_check.specs.Keys as keys;
-ghost use Rattle.nb_check.specs.Rules.{script_faults};
-ghost use Rattle.nb_check.specs.Meets.{met_from};
-ghost use Rattle.nb_check.specs.declared.types.SagaType.{SagaType};
-ghost use Rattle.nb_check.specs.declared.incoming.Incoming.{Incoming};
-ghost use Rattle.nb_eval.specs.Blocks.{in_block, block_does, term_does, blocks_do};
+ghost use Rattle.nb_check.specs.Sites.{site_block};
+ghost use Rattle.nb_eval.specs.Blocks.{in_block, block_does, term_does, at_does, numbers_do};
 ghost use Rattle.nb_eval.specs.Meanings.{FitsLook};
 ghost use Rattle.nb_eval.specs.Statements.{Does};
-ghost use Rattle.nb_eval.specs.Walks as spec;
-ghost use Rattle.nb_eval.specs.Walks.{is_next, IsAt, Walked, IsDeclared};
 ghost use Rattle.nb_eval.specs.Worlds.{seen_in, saga_there, world_of};
 ghost use Rattle.nb_script.specs.Tree as tree;
 ghost use Rattle.nb_script.specs.Tree.{script};
@@ -23,8 +18,7 @@ use crate::scene::{Instance, Scene, State};
 use crate::stmt::cut;
 use crate::stop::Stop;
 use nb_base::{Key, NoMemory, Read, SagaRow, Seen, Text, Value};
-use nb_check::{Blocks, Checked};
-use nb_script::expr::TypeName;
+use nb_check::{Checked, Site};
 use nb_script::item::{Answer, Finder, Item, Part, Saga};
 use nb_script::stmt::Block;
 use std::alloc::Global;
@@ -76,47 +70,6 @@ fn by_id<'a>(saga: &Text, id: &Text, reads: &'a [Read]) -> Option<&'a SagaRow>
         }
     }
     None
-}
-
-/// How far the walk over the blocks of a script is.
-#[derive(Clone, Copy, Debug, PartialEq, Eq)]
-pub struct Walk {
-    /// The number of the next block.
-    pub number: u32,
-    /// How many of the blocks met were run.
-    pub done: u32,
-}
-
-impl Walk {
-    /// Whether the next block is met.
-    fn is_met(self, met: &[u32]) -> bool
-        ensures { result ≡ is_next self met.now }
-    {
-        match met.get(self.done as usize) {
-            Some(number) => *number == self.number,
-            None => false,
-        }
-    }
-
-    /// Behind a block that isn't met.
-    fn past(self) -> Result<Walk, NoMemory>
-        ensures { IfOk result (λ k. k ≡ spec.past self) }
-    {
-        let number = self.number.checked_add(1).ok_or(NoMemory)?;
-        Ok(Walk {
-            number,
-            done: self.done,
-        })
-    }
-
-    /// Behind a block that was run.
-    fn run(self) -> Result<Walk, NoMemory>
-        ensures { IfOk result (λ k. k ≡ spec.run self) }
-    {
-        let number = self.number.checked_add(1).ok_or(NoMemory)?;
-        let done = self.done.checked_add(1).ok_or(NoMemory)?;
-        Ok(Walk { number, done })
-    }
 }
 
 impl Scene {
@@ -224,113 +177,62 @@ impl Scene {
         }
     }
 
-    /// Past a part of a saga, which runs where it is met.
-    fn part(
+    /// Does what the block that stands there says, at its place among the blocks met.
+    fn site_does(
         &self,
         alloc: Global,
         c: &Checked,
         state: &mut State,
-        saga: &Saga,
-        p: &Part,
-        met: &[u32],
-        k: Walk,
-    ) -> Result<Walk, Stop>
-        requires declared { saga_named saga.now.name (sagas (script c.now)) ≡ Some (saga_type (tree.saga saga.now)) }
+        site: &Site,
+        place: u32,
+    ) -> Result<(), Stop>
         requires fits { FitsLook (sagas (script c.now)) (seen_in self.now.reads) }
-        ensures { (m : Incoming) (more : List BlockTerm) → IsAt m met.now k (part_block saga.now.name (tree.part p.now) ∷ more) →
-            Walked (sagas (script c.now)) m met.now (world_of self.now) k (part_block saga.now.name (tree.part p.now) ∷ more) more state.old result state.new }
+        ensures { Does result state.new (at_does (sagas (script c.now)) place (site_block (script c.now) site.now) (world_of self.now) state.old) }
     {
-        if !k.is_met(met) {
-            return Ok(k.past()?);
+        match c.items().get(site.item as usize) {
+            Some(Item::Handler { block, .. }) => self.in_block(alloc, state, None, block),
+            Some(Item::Saga(saga)) => match saga.parts.as_slice().get(site.part as usize) {
+                Some(p) => self.part_does(alloc, c, state, saga, p, place),
+                None => Err(Stop::Wrong),
+            },
+            Some(Item::Message { .. }) => Err(Stop::Wrong),
+            None => Err(Stop::Wrong),
         }
-        let next = k.run()?;
-        self.part_does(alloc, c, state, saga, p, next.done)?;
-        Ok(next)
     }
 
-    /// Past a handler, which runs where it is met.
-    fn handler(
-        &self,
-        alloc: Global,
-        state: &mut State,
-        name: &TypeName,
-        b: &Block,
-        met: &[u32],
-        k: Walk,
-    ) -> Result<Walk, Stop>
-        ensures { (types : List SagaType) (m : Incoming) (more : List BlockTerm) → IsAt m met.now k (handler_block name.now (tree.block b.now) ∷ more) →
-            Walked types m met.now (world_of self.now) k (handler_block name.now (tree.block b.now) ∷ more) more state.old result state.new }
-    {
-        if !k.is_met(met) {
-            return Ok(k.past()?);
-        }
-        let next = k.run()?;
-        self.in_block(alloc, state, None, b)?;
-        Ok(next)
-    }
-
-    /// Past the parts of a saga.
-    fn saga(
+    /// Does what the block with this number says, at its place among the blocks met.
+    fn number_does(
         &self,
         alloc: Global,
         c: &Checked,
         state: &mut State,
-        saga: &Saga,
-        met: &[u32],
-        k: Walk,
-    ) -> Result<Walk, Stop>
-        requires declared { saga_named saga.now.name (sagas (script c.now)) ≡ Some (saga_type (tree.saga saga.now)) }
+        number: u32,
+        place: u32,
+    ) -> Result<(), Stop>
         requires fits { FitsLook (sagas (script c.now)) (seen_in self.now.reads) }
-        ensures { (m : Incoming) (more : List BlockTerm) → IsAt m met.now k (part_blocks saga.now.name (map tree.part saga.now.parts) ++ more) →
-            Walked (sagas (script c.now)) m met.now (world_of self.now) k (part_blocks saga.now.name (map tree.part saga.now.parts) ++ more) more state.old result state.new }
+        ensures { Does result state.new (at_does (sagas (script c.now)) place (slice_get (blocks (script c.now)) number) (world_of self.now) state.old) }
     {
-        let mut at = k;
-        for p in saga.parts.as_slice() {
-            at = self.part(alloc, c, state, saga, p, met, at)?;
-        }
-        Ok(at)
-    }
-
-    /// Past an item.
-    fn item(
-        &self,
-        alloc: Global,
-        c: &Checked,
-        state: &mut State,
-        i: &Item,
-        met: &[u32],
-        k: Walk,
-    ) -> Result<Walk, Stop>
-        requires declared { IsDeclared (sagas (script c.now)) (tree.item i.now) }
-        requires fits { FitsLook (sagas (script c.now)) (seen_in self.now.reads) }
-        ensures { (m : Incoming) (more : List BlockTerm) → IsAt m met.now k (item_blocks (tree.item i.now) ++ more) →
-            Walked (sagas (script c.now)) m met.now (world_of self.now) k (item_blocks (tree.item i.now) ++ more) more state.old result state.new }
-    {
-        match i {
-            Item::Message { .. } => Ok(k),
-            Item::Handler { name, block, .. } => self.handler(alloc, state, name, block, met, k),
-            Item::Saga(saga) => self.saga(alloc, c, state, saga, met, k),
+        match c.site(number) {
+            Some(site) => self.site_does(alloc, c, state, site, place),
+            None => Err(Stop::Wrong),
         }
     }
 
-    /// Does what the blocks that the message meets say.
+    /// Does what the blocks with these numbers say.
     pub(crate) fn blocks(
         &self,
         alloc: Global,
         c: &Checked,
-        items: &[Item],
         state: &mut State,
         met: &[u32],
     ) -> Result<(), Stop>
-        requires same { items.now ≡ c.now }
-        requires rules { script_faults (script items.now) ≡ [] }
         requires fits { FitsLook (sagas (script c.now)) (seen_in self.now.reads) }
-        ensures { (m : Incoming) → met.now ≡ met_from m 0 (blocks (script c.now)) →
-            Does result state.new (blocks_do (sagas (script c.now)) m 1 (blocks (script c.now)) (world_of self.now) state.old) }
+        ensures { Does result state.new (numbers_do (sagas (script c.now)) (blocks (script c.now)) 1 met.now (world_of self.now) state.old) }
     {
-        let mut at = Walk { number: 0, done: 0 };
-        for i in items {
-            at = self.item(alloc, c, state, i, met, at)?;
+        let mut place: u32 = 0;
+        for number in met {
+            place = place.checked_add(1).ok_or(NoMemory)?;
+            self.number_does(alloc, c, state, *number, place)?;
         }
         Ok(())
     }

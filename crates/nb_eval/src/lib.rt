@@ -17,6 +17,3 @@ mod verdicts;
 
 pub use handling::Handlers;
 pub use verdicts::evaluate;
-
-#[cfg(test)]
-mod tests;

@@ -1,5 +1,5 @@
 //! Messages that are made: their types, their bodies, and where they go.
-ghost use Rattle.std.specs.Prelude.{◌≡◌, IfOk, map, option_map};
+ghost use Rattle.std.specs.Prelude.{◌≡◌, IfOk, OnOk, map, option_map};
 ghost use Rattle.nb_check.specs.Declarations as declarations;
 ghost use Rattle.nb_eval.specs.Making as spec;
 ghost use Rattle.nb_eval.specs.Making.{data_of, with_members, body_of, made, delay_in, seconds_of, timed, delay_of, address, target_of, answered, from_saga, with_intent, sent};
@@ -8,8 +8,8 @@ ghost use Rattle.nb_eval.specs.Values.{Gives};
 ghost use Rattle.nb_eval.specs.Worlds.{world_of};
 ghost use Rattle.nb_script.specs.Tree as tree;
 ghost use Rattle.nb_script.specs.Tree.{arg, make};
-ghost use Rattle.serde_json.specs.Data.{object, no_members};
-ghost use Rattle.serde_json.specs.View.{view};
+ghost use Rattle.serde_json.specs.Data.{object, no_members, put};
+ghost use Rattle.serde_json.specs.View.{view, members_view};
 
 use crate::scene::{Instance, Scene, State};
 use crate::stop::{Limit, Stop};
@@ -40,32 +40,39 @@ fn type_text(alloc: Global, name: &TypeName) -> Result<Text, NoMemory>
     Text::of_string(text)
 }
 
-fn data_of(alloc: Global, value: &Value) -> Result<Json, NoMemory>
-    ensures { IfOk result (λ v. view v ≡ data_of value.now) }
+fn data_of(value: Value) -> Json
+    ensures { view result ≡ data_of value }
 {
     match value {
-        Value::Int(n) => Ok(Json::from(*n)),
-        Value::Text(text) => Ok(Json::String(String::from_str(alloc, text.as_str())?)),
-        Value::Bool(b) => Ok(Json::Bool(*b)),
+        Value::Int(n) => Json::from(n),
+        Value::Text(text) => Json::String(text.into_string()),
+        Value::Bool(b) => Json::Bool(b),
     }
 }
 
+/// Adds a field to the members.
+fn add_member(members: &mut Map<String, Json>, f: Field) -> Result<(), NoMemory>
+    ensures { OnOk result (members_view members.new.entries ≡ put f.name (data_of f.value) (members_view members.old.entries)) }
+{
+    let Field { name, value } = f;
+    members.insert(name.into_string(), data_of(value))?;
+    Ok(())
+}
+
 /// The object of the fields, in byte order of their names.
-fn object_of(alloc: Global, fields: &[Field]) -> Result<Json, NoMemory>
-    ensures { IfOk result (λ v. view v ≡ object (with_members no_members fields.now)) }
+fn object_of(alloc: Global, fields: Fields) -> Result<Json, NoMemory>
+    ensures { IfOk result (λ v. view v ≡ object (with_members no_members fields)) }
 {
     let mut members = Map::new(alloc);
-    for f in fields {
-        let value = data_of(alloc, &f.value)?;
-        let name = String::from_str(alloc, f.name.as_str())?;
-        members.insert(name, value)?;
+    for f in fields.into_vec() {
+        add_member(&mut members, f)?;
     }
     Ok(Json::Object(members))
 }
 
 /// The body of a message with these fields.
-fn body_of(alloc: Global, fields: &[Field]) -> Result<Text, NoMemory>
-    ensures { IfOk result (λ t. t ≡ body_of fields.now) }
+fn body_of(alloc: Global, fields: Fields) -> Result<Text, NoMemory>
+    ensures { IfOk result (λ t. t ≡ body_of fields) }
 {
     let value = object_of(alloc, fields)?;
     let text = value.to_string(alloc)?;
@@ -217,7 +224,7 @@ impl Scene {
     {
         let fields = self.made(alloc, state, make.args.as_slice())?;
         let name = type_text(alloc, &make.name)?;
-        let body = body_of(alloc, fields.as_slice())?;
+        let body = body_of(alloc, fields)?;
         let from = from_saga(&state.saga)?;
         state.add_intent(Intent {
             target,

@@ -1,16 +1,14 @@
 //! The verdict of a checked script on a message.
 ghost use Rattle.std.specs.Prelude.{◌≡◌, ◌<◌, ◌++◌, List, [], ℕ, length, IfOk, OnOk, option_and_then};
 ghost use Rattle.nb_check.specs.Blocks.{blocks};
-ghost use Rattle.nb_check.specs.Checks.{declared_names, body_fields};
+ghost use Rattle.nb_check.specs.Checks.{body_fields};
 ghost use Rattle.nb_base.specs.Messages.{header};
 ghost use Rattle.nb_base.specs.declared.plan.Plan.{Plan};
 ghost use Rattle.nb_headers.specs.HeaderNames.{time_sent};
 ghost use Rattle.nb_headers.specs.Moments.{read_moment};
 ghost use Rattle.nb_headers.specs.Reads.{header_or};
 ghost use Rattle.nb_check.specs.Declarations.{sagas};
-ghost use Rattle.nb_check.specs.declared.incoming.Incoming.{Incoming};
 ghost use Rattle.nb_check.specs.Meets.{met_from};
-ghost use Rattle.nb_eval.specs.Blocks.{blocks_do};
 ghost use Rattle.nb_eval.specs.Meanings.{FitsLook};
 ghost use Rattle.nb_eval.specs.Values.{Answer, Gives};
 ghost use Rattle.nb_eval.specs.Verdicts as spec;
@@ -26,9 +24,9 @@ use nb_base::{
     Copied, Envelope, Fields, Items, Key, Moment, NoMemory, Outcome, Plan, Read, Reads, Text,
     Verdict, Write, Writes,
 };
-use nb_check::{BodyFault, Checked, decode_body, meets};
+use nb_check::{BodyFault, Checked, Incoming, decode_body};
 use nb_headers::names::{REPLY_TO_ADDRESS, SAGA_ID, TIME_SENT};
-use nb_headers::{message_id, message_type, read_moment, round};
+use nb_headers::{message_id, read_moment, round};
 use sqlite_items::Items as Rows;
 use std::alloc::Global;
 
@@ -137,12 +135,14 @@ fn plan_of(state: State, reads: &[Read]) -> Result<Plan, NoMemory>
 
 impl Scene {
     /// What the blocks that the message meets do.
-    fn handled(&self, alloc: Global, c: &Checked, met: &[u32]) -> Result<Plan, Stop>
+    #[tactic(auto, using(crate::proofs::NumberLaws::met_do))]
+    fn handled(&self, alloc: Global, c: &Checked, m: &Incoming, met: &[u32]) -> Result<Plan, Stop>
+        requires met { met.now ≡ met_from m.now 0 (blocks (script c.now)) }
         requires fits { FitsLook (sagas (script c.now)) (seen_in self.now.reads) }
-        ensures { (m : Incoming) → met.now ≡ met_from m 0 (blocks (script c.now)) → Gives result (handled (script c.now) m (world_of self.now)) }
+        ensures { Gives result (handled (script c.now) m.now (world_of self.now)) }
     {
         let mut state = nothing_done(alloc);
-        self.blocks(alloc, c, c.items(), &mut state, met)?;
+        self.blocks(alloc, c, &mut state, met)?;
         Ok(plan_of(state, self.reads.as_slice())?)
     }
 }
@@ -173,20 +173,18 @@ fn on_body(
     e: &Envelope,
     moment: Moment,
     reads: Reads,
-    number: u32,
-    name: &Text,
+    m: &Incoming,
     met: &[u32],
 ) -> Result<Outcome, NoMemory>
-    requires number { number < length (declared_names (script c.now)) }
+    requires met { met.now ≡ met_from m.now 0 (blocks (script c.now)) }
     requires fits { FitsLook (sagas (script c.now)) (seen_in reads) }
     ensures kept { IfOk result (λ o. o.reads ≡ reads) }
-    ensures verdict { IfOk result (λ o. (m : Incoming) → m.message ≡ number → m.name ≡ name.now → met.now ≡ met_from m 0 (blocks (script c.now)) →
-        o.verdict ≡ spec.on_body (script c.now) (seen_in reads) e.now moment m (body_fields (script c.now) m.message e.now.body)) }
+    ensures verdict { IfOk result (λ o. o.verdict ≡ spec.on_body (script c.now) (seen_in reads) e.now moment m.now (body_fields (script c.now) m.now.message e.now.body)) }
 {
-    match decode_body(alloc, c, number, e.body()) {
+    match decode_body(alloc, c, m.message, e.body()) {
         Ok(fields) => {
             let scene = scene(alloc, e, fields, moment, reads)?;
-            let done = scene.handled(alloc, c, met);
+            let done = scene.handled(alloc, c, m, met);
             let verdict = verdict_of(alloc, done)?;
             let Scene {
                 fields: _,
@@ -201,7 +199,7 @@ fn on_body(
             Ok(Outcome { reads, verdict })
         }
         Err(BodyFault::Undecodable) => {
-            let verdict = Verdict::Fault(undecodable(alloc, name)?);
+            let verdict = Verdict::Fault(undecodable(alloc, &m.name)?);
             Ok(Outcome { reads, verdict })
         }
         Err(BodyFault::NoMemory) => Err(NoMemory),
@@ -221,19 +219,14 @@ pub fn evaluate(
     ensures kept { IfOk result (λ o. o.reads ≡ reads) }
     ensures verdict { IfOk result (λ o. o.verdict ≡ verdict_over (script c.now) (seen_in reads) e.now moment) }
 {
-    let names = c.names();
-    let Some(number) = message_type(e, names) else {
+    let Some(m) = c.incoming(alloc, e)? else {
         let verdict = Verdict::Fault(undeclared(alloc, e)?);
         return Ok(Outcome { reads, verdict });
     };
-    let Some(name) = names.as_slice().get(number as usize) else {
-        let verdict = Verdict::Fault(undeclared(alloc, e)?);
-        return Ok(Outcome { reads, verdict });
-    };
-    let met = meets(alloc, c, e)?;
+    let met = c.met(alloc, &m)?;
     if met.is_empty() {
-        let verdict = Verdict::Fault(no_handler(alloc, name)?);
+        let verdict = Verdict::Fault(no_handler(alloc, &m.name)?);
         return Ok(Outcome { reads, verdict });
     }
-    on_body(alloc, c, e, moment, reads, number, name, met.as_slice())
+    on_body(alloc, c, e, moment, reads, &m, met.as_slice())
 }

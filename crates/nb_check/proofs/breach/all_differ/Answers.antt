@@ -1,7 +1,7 @@
 use Rattle.std.proofs.Common.{◌≡◌, ◌+◌, ◌∷◌, drop, is_some, false, sym, ap, ◌∙◌, subst}
 use Rattle.std.specs.FinMap as map
 use Rattle.nb_check.specs.Breaches.{twice}
-use Rattle.nb_check.proofs.MetLaws.{next_of}
+use Rattle.nb_check.proofs.Steps.{next_of}
 use Rattle.nb_check.proofs.TableLaws.{NoneOf, new_name}
 use Rattle.nb_check.proofs.breach.all_differ.Goals as goal
 

@@ -4,7 +4,7 @@ use Rattle.nb_script.specs.Tree.{script, item}
 use Rattle.nb_check.specs.Blocks.{blocks, item_blocks}
 use Rattle.nb_check.specs.Sends.{blocks_sends}
 use Rattle.nb_check.proofs.SendLaws.{sends_step}
-use Rattle.nb_check.proofs.MetLaws.{next_of}
+use Rattle.nb_check.proofs.Steps.{next_of}
 use Rattle.nb_check.proofs.sends.sends.Goals as goal
 
 pub loop-i-preserved : goal.loop-i-preserved

@@ -2,7 +2,7 @@ use Rattle.std.proofs.Common.{◌+◌, ◌≤◌, length, drop, sym, ap, ◌∙�
 use Rattle.std.specs.FinMap as map
 use Rattle.nb_check.specs.Statements.{fields_of}
 use Rattle.nb_check.specs.Tables.{with_first}
-use Rattle.nb_check.proofs.MetLaws.{next_of}
+use Rattle.nb_check.proofs.Steps.{next_of}
 use Rattle.nb_check.proofs.TableLaws.{or_else, or_none, of_none, none_yet, put_step, nothing_left}
 use Rattle.nb_check.proofs.tables.fields_by_name.Goals as goal
 

@@ -2,7 +2,7 @@ use Rattle.std.proofs.Common.{◌+◌, ◌≤◌, length, drop, map as map_list,
 use Rattle.std.specs.FinMap as map
 use Rattle.nb_script.specs.Tree.{arg}
 use Rattle.nb_check.specs.Statements.{is_given}
-use Rattle.nb_check.proofs.MetLaws.{next_of}
+use Rattle.nb_check.proofs.Steps.{next_of}
 use Rattle.nb_check.proofs.TableLaws.{none_yet, name_step, or_false, nothing_left}
 use Rattle.nb_check.proofs.tables.given_names.Goals as goal
 

@@ -1,7 +1,7 @@
 use Rattle.std.proofs.Common.{◌+◌, ◌≤◌, length, drop, sym, ap, ◌∙◌}
 use Rattle.std.specs.FinMap as map
 use Rattle.nb_check.specs.Kinds.{kind_in}
-use Rattle.nb_check.proofs.MetLaws.{next_of}
+use Rattle.nb_check.proofs.Steps.{next_of}
 use Rattle.nb_check.proofs.TableLaws.{or_else, or_none, of_none, none_yet, put_step, nothing_left}
 use Rattle.nb_check.proofs.tables.kinds_of.Goals as goal
 

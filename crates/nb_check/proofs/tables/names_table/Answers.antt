@@ -1,7 +1,7 @@
 use Rattle.std.proofs.Common.{◌+◌, ◌≤◌, length, drop, true, ◌||◌, is_some, sym, ap, ◌∙◌}
 use Rattle.std.specs.FinMap as map
 use Rattle.nb_check.specs.Statements.{has_name}
-use Rattle.nb_check.proofs.MetLaws.{next_of}
+use Rattle.nb_check.proofs.Steps.{next_of}
 use Rattle.nb_check.proofs.TableLaws.{none_yet, name_step, or_false, nothing_left}
 use Rattle.nb_check.proofs.tables.names_table.Goals as goal
 

@@ -1,4 +1,4 @@
-use Rattle.std.proofs.Common.{◌≡◌, take, drop, ◌++◌, length}
+use Rattle.std.proofs.Common.{◌≡◌, take, drop, length}
 use Rattle.nb_eval.specs.Statements.{with_field, behind}
 use Rattle.nb_eval.proofs.stmt.set_field.Given as goal
 
