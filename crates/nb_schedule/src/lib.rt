@@ -22,4 +22,10 @@ pub use texts::{SCRIPT, SETTINGS, Unread, handlers_of};
 #[cfg(test)]
 mod acting;
 #[cfg(test)]
+mod failure_tests;
+#[cfg(test)]
 mod pair_tests;
+#[cfg(test)]
+mod stop_tests;
+#[cfg(test)]
+mod upkeep_tests;

@@ -4,7 +4,7 @@ use crate::acting::{
     Scene, Step, Unready, answers, empty_scene, left, one, order, ran, terms, told,
 };
 use crate::{Ended, SCRIPT};
-use nb_base::{Items, Moment};
+use nb_base::{Items, Moment, Text};
 use nb_cells::{FaultPlan, MemCells, Stop};
 use std::alloc::Global;
 use std::test::Fail;
@@ -106,12 +106,18 @@ fn of_two_workers_on_one_saga_the_second_tries_again(rt: HostRuntime) -> Result<
     Ok(())
 }
 
+/// What is left in a scene, in words.
+fn told_behind(alloc: Global, scene: Scene, steps: &[Step]) -> Result<Text, Unready> {
+    let ended = left(alloc, scene, steps)?;
+    Ok(told(alloc, &ended.state)?)
+}
+
 #[test]
 fn both_orders_count(rt: HostRuntime) -> Result<(), Fail> {
     let alloc = rt.alloc();
-    let ended = left(alloc, with_b(alloc)?, TWO_ORDERS)?;
+    let text = told_behind(alloc, with_b(alloc)?, TWO_ORDERS)?;
     assert_eq!(rt;
-        told(alloc, &ended.state)?.as_str(),
+        text.as_str(),
         "moment 1970-01-01 00:00:00:000000 Z
 commits 3
 next 3
@@ -148,9 +154,9 @@ fn where_there_is_no_saga_the_second_finds_that_of_the_first(rt: HostRuntime) ->
 #[test]
 fn the_second_commit_updates_the_saga_of_the_first(rt: HostRuntime) -> Result<(), Fail> {
     let alloc = rt.alloc();
-    let ended = left(alloc, empty_scene(alloc, 2), TWO_ORDERS)?;
+    let text = told_behind(alloc, empty_scene(alloc, 2), TWO_ORDERS)?;
     assert!(rt;
-        told(alloc, &ended.state)?.as_str().contains(
+        text.as_str().contains(
             "\nsaga Order \"B\" \"Sales/1/1\" 2 \"\" \"p2\" total=5 paid=false\noutbox \"p2\" 1"
         )
     );
