@@ -59,6 +59,3 @@ pub use source::{ReadStop, Source, read_all};
 pub use tables::{Discard, Discards, PostState, Queued, Row, Tables};
 pub use text::Text;
 pub use value::{Field, Fields, Key, Keys, Names, Numbers, Value};
-
-#[cfg(test)]
-mod tests;

@@ -17,6 +17,3 @@ pub use change::{Change, Changes};
 pub use fault::CellFault;
 pub use mem_cells::MemCells;
 pub use plan::{FaultPlan, Stop};
-
-#[cfg(test)]
-mod tests;

@@ -36,8 +36,3 @@ pub use phases::{move_after, phase_after, phase_by};
 pub use replaying::{ReplayFault, replay};
 pub use staleness::{conflict, version};
 pub use state::State;
-
-#[cfg(test)]
-mod replay_tests;
-#[cfg(test)]
-mod tests;

@@ -10,6 +10,3 @@ mod queues;
 pub use ids::saga_id;
 pub use laws::{law_ids, law_ops};
 pub use ops::ops_of;
-
-#[cfg(test)]
-mod tests;

@@ -17,6 +17,3 @@ pub use input::{Envelopes, InputFault, InputKind, line_past, message_at, next_li
 pub use laws::{law_dues, law_envelopes, law_numbers, law_texts, law_values};
 pub use line::{LineFault, Place, read_line};
 pub use write::write_line;
-
-#[cfg(test)]
-mod tests;

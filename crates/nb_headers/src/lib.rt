@@ -14,6 +14,3 @@ pub use made::{Made, SagaName};
 pub use moments::{moment_text, read_moment};
 pub use outgoing::causation;
 pub use reads::{message_id, message_type, round};
-
-#[cfg(test)]
-mod tests;

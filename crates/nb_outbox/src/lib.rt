@@ -10,6 +10,3 @@ mod take;
 pub use cell::{is_purgeable, mark_change, outbox_cell};
 pub use laws::law_records;
 pub use read::{OUTBOX, read_outbox};
-
-#[cfg(test)]
-mod tests;

@@ -15,8 +15,3 @@ mod take;
 
 pub use fault::PostFault;
 pub use post::{LIMIT, Post, PostClosed, PostRefusal};
-
-#[cfg(test)]
-mod opening_tests;
-#[cfg(test)]
-mod tests;

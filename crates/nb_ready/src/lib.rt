@@ -7,6 +7,3 @@ mod seat;
 mod tree;
 
 pub use ready::Ready;
-
-#[cfg(test)]
-mod tests;

@@ -17,6 +17,3 @@ pub use laws::law_copies;
 pub use moves::Move;
 pub use returned::Returned;
 pub use texts::{json_text, value_text};
-
-#[cfg(test)]
-mod tests;

@@ -11,6 +11,3 @@ mod texts;
 pub use nb_core::{ReplayFault, replay};
 pub use reporting::report;
 pub use summing::summary;
-
-#[cfg(test)]
-mod tests;

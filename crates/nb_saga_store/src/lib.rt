@@ -16,6 +16,3 @@ pub use laws::{law_places, law_rows, law_sagas, law_writes};
 pub use read::{ROWS, SAGAS, read_row, read_saga};
 pub use stored::{StoredRow, StoredSaga};
 pub use written::Written;
-
-#[cfg(test)]
-mod tests;

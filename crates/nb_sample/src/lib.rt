@@ -10,6 +10,3 @@ mod texts;
 
 pub use line::sample_line;
 pub use texts::{script, settings};
-
-#[cfg(test)]
-mod tests;

@@ -28,6 +28,3 @@ pub use place::Place;
 pub use print_script::print;
 pub use script::{ScriptFault, ScriptKind, parse, tokens};
 pub use tree::Script;
-
-#[cfg(test)]
-mod tests;

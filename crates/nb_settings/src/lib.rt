@@ -19,6 +19,3 @@ pub use file::read_settings;
 pub use laws::law_least;
 pub use missing::missing_route;
 pub use refusal::{SettingsFault, SettingsKind, SettingsRefusal};
-
-#[cfg(test)]
-mod tests;

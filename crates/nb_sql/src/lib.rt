@@ -12,6 +12,3 @@ mod write;
 
 pub use files::FileCells;
 pub use sql_cells::SqlCells;
-
-#[cfg(test)]
-mod tests;

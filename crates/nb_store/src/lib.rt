@@ -16,8 +16,3 @@ mod store;
 
 pub use fault::StoreFault;
 pub use store::{Store, StoreClosed, StoreRefusal};
-
-#[cfg(test)]
-mod commit_tests;
-#[cfg(test)]
-mod tests;

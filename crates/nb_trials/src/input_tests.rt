@@ -5,10 +5,10 @@ use nb_base::NoMemory;
 use std::alloc::Global;
 use std::test::Fail;
 
-const C1: &str =
+const FIVE_FOR_ANN: &str =
     r#"{"headers":{"NServiceBus.EnclosedMessageTypes":"Credit","NServiceBus.MessageId":"c1"},"body":"{\"account\":\"ann\",\"amount\":5}"}"#;
 
-const C2: &str =
+const SEVEN_FOR_ANN: &str =
     r#"{"headers":{"NServiceBus.EnclosedMessageTypes":"Credit","NServiceBus.MessageId":"c2"},"body":"{\"account\":\"ann\",\"amount\":7}"}"#;
 
 /// What a run of an input comes to.
@@ -32,7 +32,7 @@ outbox "c2" 2 0 sent
 #[test]
 fn a_last_piece_without_line_feed_is_a_line(rt: HostRuntime) -> Result<(), Fail> {
     let alloc = rt.alloc();
-    let input = format!(in alloc; "{C1}\n{C2}")?;
+    let input = format!(in alloc; "{FIVE_FOR_ANN}\n{SEVEN_FOR_ANN}")?;
     let told = told_input(alloc, input.as_str())?;
     assert_eq!(rt; told.as_str(), BOTH);
     Ok(())
@@ -41,7 +41,7 @@ fn a_last_piece_without_line_feed_is_a_line(rt: HostRuntime) -> Result<(), Fail>
 #[test]
 fn a_carriage_return_before_a_line_feed_is_dropped(rt: HostRuntime) -> Result<(), Fail> {
     let alloc = rt.alloc();
-    let input = format!(in alloc; "\r\n{C1}\r\n\r\n{C2}\r\n")?;
+    let input = format!(in alloc; "\r\n{FIVE_FOR_ANN}\r\n\r\n{SEVEN_FOR_ANN}\r\n")?;
     let told = told_input(alloc, input.as_str())?;
     assert_eq!(rt; told.as_str(), BOTH);
     Ok(())
@@ -50,7 +50,7 @@ fn a_carriage_return_before_a_line_feed_is_dropped(rt: HostRuntime) -> Result<()
 #[test]
 fn empty_lines_are_skipped(rt: HostRuntime) -> Result<(), Fail> {
     let alloc = rt.alloc();
-    let input = format!(in alloc; "\n\n{C1}\n\n\n{C2}\n\n")?;
+    let input = format!(in alloc; "\n\n{FIVE_FOR_ANN}\n\n\n{SEVEN_FOR_ANN}\n\n")?;
     let told = told_input(alloc, input.as_str())?;
     assert_eq!(rt; told.as_str(), BOTH);
     Ok(())
@@ -59,7 +59,7 @@ fn empty_lines_are_skipped(rt: HostRuntime) -> Result<(), Fail> {
 #[test]
 fn empty_lines_are_counted(rt: HostRuntime) -> Result<(), Fail> {
     let alloc = rt.alloc();
-    let input = format!(in alloc; "\n\r\n{C1}\n\n[]\n{C2}\n")?;
+    let input = format!(in alloc; "\n\r\n{FIVE_FOR_ANN}\n\n[]\n{SEVEN_FOR_ANN}\n")?;
     let told = told_input(alloc, input.as_str())?;
     assert_eq!(rt; told.as_str(), "5 input 5: NotEnvelope\n");
     Ok(())
@@ -86,7 +86,7 @@ fn a_message_needs_an_id(rt: HostRuntime) -> Result<(), Fail> {
 #[test]
 fn the_first_bad_line_is_named(rt: HostRuntime) -> Result<(), Fail> {
     let alloc = rt.alloc();
-    let input = format!(in alloc; "{C1}\n{C2}\nbad\n{{}}\n")?;
+    let input = format!(in alloc; "{FIVE_FOR_ANN}\n{SEVEN_FOR_ANN}\nbad\n{{}}\n")?;
     let told = told_input(alloc, input.as_str())?;
     assert_eq!(rt; told.as_str(), "5 input 3: NotJson\n");
     Ok(())

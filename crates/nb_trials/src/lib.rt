@@ -2,23 +2,37 @@
 //! a source, a store or the sink fails in the middle.
 #![tactic(auto)]
 
+#[cfg(test)]
 mod lines;
+#[cfg(test)]
 mod runs;
+#[cfg(test)]
 mod seen;
+#[cfg(test)]
 mod stable;
+#[cfg(test)]
 mod stores;
+#[cfg(test)]
 mod texts;
+#[cfg(test)]
 mod trial;
 
+#[cfg(test)]
 pub use lines::messages;
+#[cfg(test)]
 pub use runs::{
     left, left_again, left_again_with, left_with, see, see_again, see_with, told, told_again,
     told_again_with, told_over, told_with,
 };
+#[cfg(test)]
 pub use seen::{Seen, events_of, headers_of, left_over, see_over};
+#[cfg(test)]
 pub use stable::settled;
+#[cfg(test)]
 pub use stores::{Stores, both_failing, both_reopened, failing, holding, stopping, stopping_again};
+#[cfg(test)]
 pub use texts::{FEW_RETRIES, NO_RETRIES, SCRIPT, SETTINGS};
+#[cfg(test)]
 pub use trial::Trial;
 
 #[cfg(test)]

@@ -26,28 +26,42 @@ fn are_refused(alloc: Global, words: &str) -> Result<bool, NoMemory> {
     Ok(seen.told.as_str() == "2 words refused\n" && seen.events.as_str() == "none" && apart)
 }
 
+/// Words that are no command.
+const NO_COMMANDS: &[&str] = &[
+    "run --workers 0",
+    "run --at 253402300800",
+    "fly",
+    "",
+    "run --at 1 --at 1",
+    "--help",
+];
+
 #[test]
 fn words_are_refused(rt: HostRuntime) -> Result<(), Fail> {
     let alloc = rt.alloc();
-    assert!(rt; are_refused(alloc, "run --workers 0")?);
-    assert!(rt; are_refused(alloc, "run --at 253402300800")?);
-    assert!(rt; are_refused(alloc, "fly")?);
-    assert!(rt; are_refused(alloc, "")?);
-    assert!(rt; are_refused(alloc, "run --at 1 --at 1")?);
-    assert!(rt; are_refused(alloc, "--help")?);
+    for words in NO_COMMANDS {
+        assert!(rt; are_refused(alloc, words)?);
+    }
     Ok(())
 }
+
+/// Words with a number out of its range.
+const OUT_OF_RANGE: &[&str] = &[
+    "run --workers 17",
+    "run --horizon 31536001",
+    "run --turns 0",
+    "run --turns 200001",
+    "sample --seed 1000001",
+    "sample --count 0",
+    "sample --count 20001",
+];
 
 #[test]
 fn each_number_has_its_range(rt: HostRuntime) -> Result<(), Fail> {
     let alloc = rt.alloc();
-    assert!(rt; are_refused(alloc, "run --workers 17")?);
-    assert!(rt; are_refused(alloc, "run --horizon 31536001")?);
-    assert!(rt; are_refused(alloc, "run --turns 0")?);
-    assert!(rt; are_refused(alloc, "run --turns 200001")?);
-    assert!(rt; are_refused(alloc, "sample --seed 1000001")?);
-    assert!(rt; are_refused(alloc, "sample --count 0")?);
-    assert!(rt; are_refused(alloc, "sample --count 20001")?);
+    for words in OUT_OF_RANGE {
+        assert!(rt; are_refused(alloc, words)?);
+    }
     Ok(())
 }
 

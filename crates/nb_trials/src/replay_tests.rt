@@ -100,17 +100,24 @@ fn lacking(alloc: Global, index: usize) -> Result<String, NoMemory> {
     told(alloc, without(alloc, &events, index)?)
 }
 
+/// Which event is missing, and what the replay comes to.
+const LACKING: &[(usize, &str)] = &[
+    (0, "illegal at 6"),
+    (2, "illegal at 2"),
+    (3, "illegal at 3"),
+    (4, "illegal at 4"),
+    (5, "illegal at 5"),
+    (6, "illegal at 6"),
+    (7, "illegal at 7"),
+    (8, "illegal at 8"),
+];
+
 #[test]
 fn no_event_may_be_missing(rt: HostRuntime) -> Result<(), Fail> {
     let alloc = rt.alloc();
-    assert_eq!(rt; lacking(alloc, 0)?.as_str(), "illegal at 6");
-    assert_eq!(rt; lacking(alloc, 2)?.as_str(), "illegal at 2");
-    assert_eq!(rt; lacking(alloc, 3)?.as_str(), "illegal at 3");
-    assert_eq!(rt; lacking(alloc, 4)?.as_str(), "illegal at 4");
-    assert_eq!(rt; lacking(alloc, 5)?.as_str(), "illegal at 5");
-    assert_eq!(rt; lacking(alloc, 6)?.as_str(), "illegal at 6");
-    assert_eq!(rt; lacking(alloc, 7)?.as_str(), "illegal at 7");
-    assert_eq!(rt; lacking(alloc, 8)?.as_str(), "illegal at 8");
+    for (index, wanted) in LACKING {
+        assert_eq!(rt; lacking(alloc, *index)?.as_str(), *wanted);
+    }
     Ok(())
 }
 

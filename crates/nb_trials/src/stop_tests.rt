@@ -238,33 +238,28 @@ fn credits_come(
     comes_to(alloc, which, apply, after, "run --at 0", CREDITS, wanted)
 }
 
-#[test]
-fn credits_are_loaded_one_by_one(rt: HostRuntime) -> Result<(), Fail> {
-    let alloc = rt.alloc();
-    assert!(rt; credits_come(alloc, Which::Post, 1, false, "0 done \ncommits 0 \n")?);
-    assert!(rt; credits_come(alloc, Which::Post, 1, true, ONE_CREDIT)?);
-    assert!(rt; credits_come(alloc, Which::Post, 2, false, ONE_CREDIT)?);
-    assert!(rt; credits_come(alloc, Which::Post, 2, true, ONE_CREDIT)?);
-    Ok(())
-}
+/// Stops of a run of credits: the store, its apply, whether that has its effect, and what the next run comes to.
+const STOPS_OF_CREDITS: &[(Which, u64, bool, &str)] = &[
+    (Which::Post, 1, false, "0 done \ncommits 0 \n"),
+    (Which::Post, 1, true, ONE_CREDIT),
+    (Which::Post, 2, false, ONE_CREDIT),
+    (Which::Post, 2, true, ONE_CREDIT),
+    (Which::Post, 3, false, ONE_CREDIT),
+    (Which::Post, 3, true, ONE_CREDIT),
+    (Which::Post, 4, false, ONE_CREDIT),
+    (Which::Post, 4, true, ONE_CREDIT),
+    (Which::Base, 1, false, ONE_CREDIT),
+    (Which::Base, 1, true, ONE_CREDIT),
+    (Which::Base, 2, false, ONE_CREDIT),
+    (Which::Base, 2, true, ONE_CREDIT),
+];
 
 #[test]
-fn credits_survive_stops_of_the_post(rt: HostRuntime) -> Result<(), Fail> {
+fn credits_survive_each_stop(rt: HostRuntime) -> Result<(), Fail> {
     let alloc = rt.alloc();
-    assert!(rt; credits_come(alloc, Which::Post, 3, false, ONE_CREDIT)?);
-    assert!(rt; credits_come(alloc, Which::Post, 3, true, ONE_CREDIT)?);
-    assert!(rt; credits_come(alloc, Which::Post, 4, false, ONE_CREDIT)?);
-    assert!(rt; credits_come(alloc, Which::Post, 4, true, ONE_CREDIT)?);
-    Ok(())
-}
-
-#[test]
-fn credits_survive_stops_of_the_base(rt: HostRuntime) -> Result<(), Fail> {
-    let alloc = rt.alloc();
-    assert!(rt; credits_come(alloc, Which::Base, 1, false, ONE_CREDIT)?);
-    assert!(rt; credits_come(alloc, Which::Base, 1, true, ONE_CREDIT)?);
-    assert!(rt; credits_come(alloc, Which::Base, 2, false, ONE_CREDIT)?);
-    assert!(rt; credits_come(alloc, Which::Base, 2, true, ONE_CREDIT)?);
+    for (which, apply, after, wanted) in STOPS_OF_CREDITS {
+        assert!(rt; credits_come(alloc, *which, *apply, *after, wanted)?);
+    }
     Ok(())
 }
 
@@ -333,25 +328,22 @@ fn first_bad(
     Ok(None)
 }
 
+/// Stops while orders are loaded: the apply of the post, whether it has its effect, and what the next run comes to.
+const LOADS_OF_ORDERS: &[(u64, bool, &str)] = &[
+    (1, false, "0 done \ncommits 0 \n"),
+    (1, true, ONE_ORDER),
+    (2, false, ONE_ORDER),
+    (2, true, PAID_ORDER),
+    (3, false, PAID_ORDER),
+    (3, true, ALL_ORDERS),
+];
+
 #[test]
 fn orders_are_loaded_one_by_one(rt: HostRuntime) -> Result<(), Fail> {
     let alloc = rt.alloc();
-    assert!(rt;
-        comes_to(
-            alloc,
-            Which::Post,
-            1,
-            false,
-            HOUR,
-            ORDERS,
-            "0 done \ncommits 0 \n"
-        )?
-    );
-    assert!(rt; comes_to(alloc, Which::Post, 1, true, HOUR, ORDERS, ONE_ORDER)?);
-    assert!(rt; comes_to(alloc, Which::Post, 2, false, HOUR, ORDERS, ONE_ORDER)?);
-    assert!(rt; comes_to(alloc, Which::Post, 2, true, HOUR, ORDERS, PAID_ORDER)?);
-    assert!(rt; comes_to(alloc, Which::Post, 3, false, HOUR, ORDERS, PAID_ORDER)?);
-    assert!(rt; comes_to(alloc, Which::Post, 3, true, HOUR, ORDERS, ALL_ORDERS)?);
+    for (apply, after, wanted) in LOADS_OF_ORDERS {
+        assert!(rt; comes_to(alloc, Which::Post, *apply, *after, HOUR, ORDERS, wanted)?);
+    }
     Ok(())
 }
 

@@ -70,14 +70,21 @@ queue "Sales" 3 "b1" "Bad" 0 "{}"
 queue "Sales" 4 "b1" "Bad" 0 "{}"
 "#;
 
+/// Stops of a retry: the apply of the post, whether it has its effect, and what is put back.
+const RETRIES: &[(u64, bool, &str)] = &[
+    (1, false, PUT_BACK_ONCE),
+    (1, true, PUT_BACK_TWICE),
+    (2, false, PUT_BACK_TWICE),
+    (2, true, PUT_BACK_ONCE),
+];
+
 /// No stop loses the message; it may come back twice.
 #[test]
 fn a_retry_is_made_again_after_each_stop(rt: HostRuntime) -> Result<(), Fail> {
     let alloc = rt.alloc();
-    assert_eq!(rt; retried_again(alloc, 1, false)?.as_str(), PUT_BACK_ONCE);
-    assert_eq!(rt; retried_again(alloc, 1, true)?.as_str(), PUT_BACK_TWICE);
-    assert_eq!(rt; retried_again(alloc, 2, false)?.as_str(), PUT_BACK_TWICE);
-    assert_eq!(rt; retried_again(alloc, 2, true)?.as_str(), PUT_BACK_ONCE);
+    for (apply, after, wanted) in RETRIES {
+        assert_eq!(rt; retried_again(alloc, *apply, *after)?.as_str(), *wanted);
+    }
     Ok(())
 }
 
@@ -131,12 +138,19 @@ next 3
 row "ann" 2 10
 "#;
 
+/// Stops of a purge: the apply of the base, whether it has its effect, and what is left.
+const PURGES: &[(u64, bool, &str)] = &[
+    (1, false, BOTH_RECORDS),
+    (1, true, ONE_RECORD),
+    (2, false, ONE_RECORD),
+    (2, true, NO_RECORD),
+];
+
 #[test]
 fn records_go_one_by_one(rt: HostRuntime) -> Result<(), Fail> {
     let alloc = rt.alloc();
-    assert_eq!(rt; purge_stopped(alloc, 1, false)?.as_str(), BOTH_RECORDS);
-    assert_eq!(rt; purge_stopped(alloc, 1, true)?.as_str(), ONE_RECORD);
-    assert_eq!(rt; purge_stopped(alloc, 2, false)?.as_str(), ONE_RECORD);
-    assert_eq!(rt; purge_stopped(alloc, 2, true)?.as_str(), NO_RECORD);
+    for (apply, after, wanted) in PURGES {
+        assert_eq!(rt; purge_stopped(alloc, *apply, *after)?.as_str(), *wanted);
+    }
     Ok(())
 }

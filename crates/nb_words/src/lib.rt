@@ -7,6 +7,3 @@ mod words;
 
 pub use command::read_words;
 pub use words::{Command, Words};
-
-#[cfg(test)]
-mod tests;
