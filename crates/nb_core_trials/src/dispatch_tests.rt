@@ -79,6 +79,15 @@ fn can_dispatch(settings: &Settings, intent: &Intent) -> bool
     }
 }
 
+/// A new order.
+fn new_order(alloc: Global) -> Result<FromSaga, NoMemory> {
+    let saga = Text::new(alloc, "Order")?;
+    Ok(FromSaga {
+        saga,
+        which: SagaRef::New(1),
+    })
+}
+
 /// A message that an order sends.
 fn intent(
     alloc: Global,
@@ -86,16 +95,15 @@ fn intent(
     delay: Option<u64>,
     name: &str,
 ) -> Result<Intent, NoMemory> {
+    let from = Some(new_order(alloc)?);
     let name = Text::new(alloc, name)?;
     let body = Text::new(alloc, "{}")?;
-    let saga = Text::new(alloc, "Order")?;
-    let which = SagaRef::New(1);
     Ok(Intent {
         target,
         delay,
         name,
         body,
-        from: Some(FromSaga { saga, which }),
+        from,
     })
 }
 

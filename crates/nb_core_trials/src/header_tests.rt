@@ -1,5 +1,6 @@
 use nb_base::{
-    Envelope, Items, Moment, Names, NoMemory, Policies, Routes, Settings, Subscribers, Target, Text,
+    Envelope, Headers, Items, Moment, Names, NoMemory, Policies, Routes, Settings, Subscribers,
+    Target, Text,
 };
 use nb_headers::{
     Made, SagaName, causation, fault_headers, message_id, message_type, moment_text, read_moment,
@@ -34,16 +35,22 @@ fn with_header(alloc: Global, name: &str, text: &str) -> Result<Envelope, NoMemo
     Ok(message)
 }
 
-/// The headers in order, a line each, and the body.
-fn shown(alloc: Global, envelope: &Envelope) -> Result<String, NoMemory> {
-    let mut out = String::new(alloc);
-    for i in 0..envelope.headers().len() {
-        let (name, text) = envelope.headers().at(i);
+/// Writes the headers in order, a line each.
+fn push_headers(out: &mut String, headers: &Headers) -> Result<(), NoMemory> {
+    for i in 0..headers.len() {
+        let (name, text) = headers.at(i);
         out.push_str(name)?;
         out.push_str(" = ")?;
         out.push_str(text.as_str())?;
         out.push('\n')?;
     }
+    Ok(())
+}
+
+/// The headers in order, a line each, and the body.
+fn shown(alloc: Global, envelope: &Envelope) -> Result<String, NoMemory> {
+    let mut out = String::new(alloc);
+    push_headers(&mut out, envelope.headers())?;
     out.push_str(envelope.body().as_str())?;
     Ok(out)
 }

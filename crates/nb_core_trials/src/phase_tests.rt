@@ -3,6 +3,7 @@ use nb_base::{
     Reads, Routes, Seen, Settings, Subscribers, Text,
 };
 use nb_core::{Event, Phase, conflict, move_after, phase_after, phase_by};
+use nb_headers::message_id;
 use nb_recover::{Fail, Move};
 use std::alloc::Global;
 use std::test::Fail as TestFail;
@@ -181,44 +182,59 @@ fn an_unrecoverable_fault_leads_to_the_error_queue(rt: HostRuntime) -> Result<()
     Ok(())
 }
 
-#[test]
-fn a_record_that_is_not_sent_is_sent_from_its_first_op(rt: HostRuntime) -> Result<(), TestFail> {
-    let alloc = rt.alloc();
+/// The phase of a lease of the entry 3, in a word.
+fn word_of(phase: &Phase) -> &'static str {
+    match phase {
+        Phase::Sending {
+            number: 3,
+            id: _,
+            ops: _,
+            k: 0,
+        } => "sends its first op",
+        Phase::Done { number: 3 } => "is done",
+        _ => "is another",
+    }
+}
+
+/// The phase of the entry 3 by a record that was sent, or wasn't.
+fn phase_of_record(alloc: Global, sent: bool) -> Result<Phase, NoMemory> {
     let id = Text::new(alloc, "p1")?;
     let row = OutboxRow {
         n: 1,
         at: Moment::FIRST,
-        sent: false,
+        sent,
         ops: Items::new(alloc),
     };
-    let phase = phase_by(3, &id, &row)?;
-    assert!(rt;
-        matches!(
-            &phase.copy()?,
-            Phase::Sending {
-                number: 3,
-                id: _,
-                ops: _,
-                k: 0
-            }
-        )
-    );
-    let sent = OutboxRow {
-        n: 1,
-        at: Moment::FIRST,
-        sent: true,
-        ops: Items::new(alloc),
-    };
-    assert!(rt; matches!(&phase_by(3, &id, &sent)?, Phase::Done { number: 3 }));
+    phase_by(3, &id, &row)
+}
+
+/// A copy of that phase, in a word.
+fn copied_by(alloc: Global, sent: bool) -> Result<&'static str, NoMemory> {
+    let phase = phase_of_record(alloc, sent)?;
+    let copy = phase.copy()?;
+    Ok(word_of(&copy))
+}
+
+#[test]
+fn a_record_that_is_not_sent_is_sent_from_its_first_op(rt: HostRuntime) -> Result<(), TestFail> {
+    let alloc = rt.alloc();
+    assert_eq!(rt; copied_by(alloc, false)?, "sends its first op");
+    assert_eq!(rt; copied_by(alloc, true)?, "is done");
     Ok(())
+}
+
+/// The id of the message that an event loads.
+fn loaded(event: &Event) -> &str {
+    match event {
+        Event::Load { envelope } => message_id(envelope).as_str(),
+        _ => "",
+    }
 }
 
 #[test]
 fn events_are_copied(rt: HostRuntime) -> Result<(), TestFail> {
-    let alloc = rt.alloc();
-    let event = Event::Load {
-        envelope: envelope(alloc, "a")?,
-    };
-    assert!(rt; matches!(&event.copy()?, Event::Load { envelope: _ }));
+    let envelope = envelope(rt.alloc(), "a")?;
+    let event = Event::Load { envelope };
+    assert_eq!(rt; loaded(&event.copy()?), "a");
     Ok(())
 }

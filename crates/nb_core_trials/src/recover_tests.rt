@@ -1,5 +1,5 @@
 use nb_base::{
-    Action, Envelope, Items, Key, Moment, NoMemory, Policies, Policy, Routes, Settings,
+    Action, Envelope, Headers, Items, Key, Moment, NoMemory, Policies, Policy, Routes, Settings,
     Subscribers, Text, Value,
 };
 use nb_recover::{Fail, Move, decide, error_copy, later_copy, return_copy};
@@ -83,16 +83,22 @@ fn a_policy_leaves_out_retries(rt: HostRuntime) -> Result<(), Failure> {
     Ok(())
 }
 
-/// The headers in order, a line each, and the body.
-fn shown(alloc: Global, envelope: &Envelope) -> Result<String, NoMemory> {
-    let mut out = String::new(alloc);
-    for i in 0..envelope.headers().len() {
-        let (name, text) = envelope.headers().at(i);
+/// Writes the headers in order, a line each.
+fn push_headers(out: &mut String, headers: &Headers) -> Result<(), NoMemory> {
+    for i in 0..headers.len() {
+        let (name, text) = headers.at(i);
         out.push_str(name)?;
         out.push_str(" = ")?;
         out.push_str(text.as_str())?;
         out.push('\n')?;
     }
+    Ok(())
+}
+
+/// The headers in order, a line each, and the body.
+fn shown(alloc: Global, envelope: &Envelope) -> Result<String, NoMemory> {
+    let mut out = String::new(alloc);
+    push_headers(&mut out, envelope.headers())?;
     out.push_str(envelope.body().as_str())?;
     Ok(out)
 }
@@ -151,11 +157,9 @@ fn copies_say_the_round_and_the_fault(rt: HostRuntime) -> Result<(), Failure> {
 fn returned(alloc: Global, envelope: &Envelope) -> Result<String, NoMemory> {
     match return_copy(envelope)? {
         Some(returned) => {
-            let mut out = returned.queue.into_string();
-            out.push('\n')?;
+            let queue = returned.queue.as_str();
             let text = shown(alloc, &returned.envelope)?;
-            out.push_str(text.as_str())?;
-            Ok(out)
+            Ok(format!(in alloc; "{queue}\n{text}")?)
         }
         None => Ok(String::from_str(alloc, "none")?),
     }

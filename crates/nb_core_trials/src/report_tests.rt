@@ -1,6 +1,7 @@
 use nb_base::{
-    ByName, ByNumber, BySaga, Discard, Envelope, Field, Fields, Headers, Items, MESSAGE_ID, Moment,
-    NoMemory, Op, Ops, OutboxRow, PostState, Queued, Row, SagaKey, SagaRow, Tables, Text, Value,
+    ByName, ByNumber, BySaga, Copied, Discard, Envelope, Field, Fields, Headers, Items, MESSAGE_ID,
+    Moment, NoMemory, Op, Ops, OutboxRow, PostState, Queued, Row, SagaKey, SagaRow, Tables, Text,
+    Value,
 };
 use nb_core::State;
 use nb_headers::names::{
@@ -98,19 +99,12 @@ fn put_bare(
     put(alloc, state, number, queue, due, envelope)
 }
 
-/// Puts a saga of the type Order.
-fn put_order(
-    alloc: Global,
-    state: &mut State,
-    corr: Value,
-    same: Value,
-    fields: Fields,
-) -> Result<(), NoMemory> {
-    let saga = Text::new(alloc, "Order")?;
+/// A saga with these fields.
+fn saga_row(alloc: Global, corr: Value, fields: Fields) -> Result<SagaRow, NoMemory> {
     let id = Text::new(alloc, "Sales/1/1")?;
     let originator = Text::new(alloc, "Web")?;
     let original = Text::new(alloc, "p1")?;
-    let row = SagaRow {
+    Ok(SagaRow {
         corr,
         id,
         version: 1,
@@ -118,8 +112,23 @@ fn put_order(
         originator,
         original,
         fields,
+    })
+}
+
+/// Puts a saga of the type Order.
+fn put_order(
+    alloc: Global,
+    state: &mut State,
+    corr: Value,
+    fields: Fields,
+) -> Result<(), NoMemory> {
+    let saga = Text::new(alloc, "Order")?;
+    let key = SagaKey {
+        saga,
+        corr: corr.copy()?,
     };
-    state.tables.sagas.insert(SagaKey { saga, corr: same }, row)
+    let row = saga_row(alloc, corr, fields)?;
+    state.tables.sagas.insert(key, row)
 }
 
 /// Puts the record of a message.
@@ -159,19 +168,30 @@ fn add_field(alloc: Global, fields: &mut Fields, name: &str, value: Value) -> Re
     fields.push(Field { name, value })
 }
 
+/// The report of nothing, so many seconds after the first moment.
+fn nothing_at(alloc: Global, seconds: u64) -> Result<Text, NoMemory> {
+    let state = nothing(alloc, at(seconds));
+    report(alloc, &state)
+}
+
+/// Seconds, and the report of nothing at that moment.
+const NOTHING: &[(u64, &str)] = &[
+    (
+        0,
+        "moment 1970-01-01 00:00:00:000000 Z\ncommits 0\nnext 1\n",
+    ),
+    (
+        253402300799,
+        "moment 9999-12-31 23:59:59:000000 Z\ncommits 0\nnext 1\n",
+    ),
+];
+
 #[test]
 fn nothing_stands(rt: HostRuntime) -> Result<(), Fail> {
     let alloc = rt.alloc();
-    let text = report(alloc, &nothing(alloc, at(0)))?;
-    assert_eq!(rt;
-        text.as_str(),
-        "moment 1970-01-01 00:00:00:000000 Z\ncommits 0\nnext 1\n"
-    );
-    let text = report(alloc, &nothing(alloc, at(253402300799)))?;
-    assert_eq!(rt;
-        text.as_str(),
-        "moment 9999-12-31 23:59:59:000000 Z\ncommits 0\nnext 1\n"
-    );
+    for (seconds, wanted) in NOTHING {
+        assert_eq!(rt; nothing_at(alloc, *seconds)?.as_str(), *wanted);
+    }
     Ok(())
 }
 
@@ -190,35 +210,42 @@ fn put_a1(alloc: Global, state: &mut State) -> Result<(), NoMemory> {
     add_field(alloc, &mut fields, "total", Value::Int(250))?;
     add_field(alloc, &mut fields, "paid", Value::Bool(false))?;
     let corr = Text::new(alloc, "A-1")?;
-    let same = Text::new(alloc, "A-1")?;
-    put_order(alloc, state, Value::Text(corr), Value::Text(same), fields)
+    put_order(alloc, state, Value::Text(corr), fields)
 }
 
-/// What stands after the order A-1 was placed.
-fn an_order(alloc: Global) -> Result<State, NoMemory> {
-    let now = at(1700000000);
-    let mut state = nothing(alloc, now);
-    state.tables.commits = 1;
-    state.post.next = 4;
-    put_a1(alloc, &mut state)?;
-    put_record(alloc, &mut state, "p1", now, Items::new(alloc))?;
+/// Puts what the order A-1 leaves in the post.
+fn put_sent(alloc: Global, state: &mut State, now: Moment) -> Result<(), NoMemory> {
     let charge = sent(
         alloc,
         "Sales/1/1",
         "Charge",
         "{\"amount\":250,\"orderId\":\"A-1\"}",
     )?;
-    put(alloc, &mut state, 2, "Billing", None, charge)?;
+    put(alloc, state, 2, "Billing", None, charge)?;
     let expired = sent(alloc, "Sales/1/2", "OrderExpired", "{\"orderId\":\"A-1\"}")?;
-    put(alloc, &mut state, 3, "Sales", Some(now.plus(3600)), expired)?;
-    Ok(state)
+    put(alloc, state, 3, "Sales", Some(now.plus(3600)), expired)
+}
+
+/// Places the order A-1.
+fn place(alloc: Global, state: &mut State, now: Moment) -> Result<(), NoMemory> {
+    state.tables.commits = 1;
+    state.post.next = 4;
+    put_a1(alloc, state)?;
+    put_record(alloc, state, "p1", now, Items::new(alloc))?;
+    put_sent(alloc, state, now)
+}
+
+/// The report after the order A-1 was placed.
+fn an_order(alloc: Global) -> Result<Text, NoMemory> {
+    let now = at(1700000000);
+    let mut state = nothing(alloc, now);
+    place(alloc, &mut state, now)?;
+    report(alloc, &state)
 }
 
 #[test]
 fn an_order_stands(rt: HostRuntime) -> Result<(), Fail> {
-    let alloc = rt.alloc();
-    let text = report(alloc, &an_order(alloc)?)?;
-    assert_eq!(rt; text.as_str(), ORDER);
+    assert_eq!(rt; an_order(rt.alloc())?.as_str(), ORDER);
     Ok(())
 }
 
@@ -246,15 +273,18 @@ fn broken(alloc: Global) -> Result<Headers, NoMemory> {
     Ok(bad)
 }
 
-#[test]
-fn a_message_is_in_error(rt: HostRuntime) -> Result<(), Fail> {
-    let alloc = rt.alloc();
+/// The report with a message in error.
+fn an_error(alloc: Global) -> Result<Text, NoMemory> {
+    let bad = message(alloc, broken(alloc)?, "{}")?;
     let mut state = nothing(alloc, at(10));
     state.post.next = 4;
-    let bad = message(alloc, broken(alloc)?, "{}")?;
     put(alloc, &mut state, 3, "error", None, bad)?;
-    let text = report(alloc, &state)?;
-    assert_eq!(rt; text.as_str(), BROKEN);
+    report(alloc, &state)
+}
+
+#[test]
+fn a_message_is_in_error(rt: HostRuntime) -> Result<(), Fail> {
+    assert_eq!(rt; an_error(rt.alloc())?.as_str(), BROKEN);
     Ok(())
 }
 
@@ -297,13 +327,7 @@ fn put_pending(alloc: Global, state: &mut State) -> Result<(), NoMemory> {
 
 /// Puts a saga, rows and a record.
 fn put_base(alloc: Global, state: &mut State) -> Result<(), NoMemory> {
-    put_order(
-        alloc,
-        state,
-        Value::Int(7),
-        Value::Int(7),
-        Items::new(alloc),
-    )?;
+    put_order(alloc, state, Value::Int(7), Items::new(alloc))?;
     put_row(alloc, state, "a\"\\\n\u{1f}", 1, 0)?;
     put_row(alloc, state, "Z", 2, -5)?;
     put_pending(alloc, state)
@@ -319,15 +343,23 @@ fn put_entries(alloc: Global, state: &mut State) -> Result<(), NoMemory> {
     put_bare(alloc, state, 6, "b", Some(at(9)))
 }
 
+/// Puts something of each kind.
+fn put_all(alloc: Global, state: &mut State) -> Result<(), NoMemory> {
+    put_base(alloc, state)?;
+    put_entries(alloc, state)?;
+    give_up(alloc, state, "b2", "Broken")?;
+    give_up(alloc, state, "b1", "Conflict")
+}
+
+/// The report of something of each kind.
+fn of_all(alloc: Global) -> Result<Text, NoMemory> {
+    let mut state = nothing(alloc, at(0));
+    put_all(alloc, &mut state)?;
+    report(alloc, &state)
+}
+
 #[test]
 fn lines_are_in_order(rt: HostRuntime) -> Result<(), Fail> {
-    let alloc = rt.alloc();
-    let mut state = nothing(alloc, at(0));
-    put_base(alloc, &mut state)?;
-    put_entries(alloc, &mut state)?;
-    give_up(alloc, &mut state, "b2", "Broken")?;
-    give_up(alloc, &mut state, "b1", "Conflict")?;
-    let text = report(alloc, &state)?;
-    assert_eq!(rt; text.as_str(), IN_ORDER);
+    assert_eq!(rt; of_all(rt.alloc())?.as_str(), IN_ORDER);
     Ok(())
 }

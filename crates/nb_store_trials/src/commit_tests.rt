@@ -1,7 +1,8 @@
-ghost use Rattle.std.specs.Prelude.{◌≡◌, ◌∷◌, [], IfOk};
+ghost use Rattle.std.specs.Prelude.{◌≡◌, ◌≢◌, ◌∷◌, [], IfOk};
+ghost use Rattle.nb_store.specs.Calls.{id_of};
 ghost use Rattle.nb_base.specs.declared.plan.Write.TheVariants.{RowPut};
 
-use nb_base::{Bytes, Envelope, Items, Moment, NoMemory, Numbers, Plan, Text, Write};
+use nb_base::{Bytes, Copied, Envelope, Items, Moment, NoMemory, Numbers, Plan, Text, Write};
 use nb_cells::{Cell, CellList, FaultPlan, MemCells, Stop};
 use nb_store::{Store, StoreClosed, StoreFault};
 use std::alloc::Global;
@@ -22,9 +23,10 @@ const REVISED: &[u8] =
     b"\x02\0\0\0\x02\0\0\0\x09Sales/1/1\0\0\0\0\0\0\0\x02\0\0\0\x03Web\0\0\0\x240f8fad5b-d9cb-469f-a165-70867728950e\0\0\0\x03\0\0\0\x05total\x01\0\0\0\0\0\0\0\xfb\0\0\0\x04paid\x03\0\0\0\0\x04note\x02\0\0\0\x04none";
 
 /// A plan that puts one row.
-fn one_row(alloc: Global, name: Text, value: i64) -> Result<Plan, NoMemory>
-    ensures { IfOk result (λ p. p.writes ≡ RowPut name value ∷ []) }
+fn one_row(alloc: Global, name: &Text, value: i64) -> Result<Plan, NoMemory>
+    ensures { IfOk result (λ p. p.writes ≡ RowPut name.now value ∷ []) }
 {
+    let name = name.copy()?;
     let mut writes = Items::new(alloc);
     writes.push(Write::RowPut { name, value })?;
     Ok(Plan {
@@ -34,6 +36,37 @@ fn one_row(alloc: Global, name: Text, value: i64) -> Result<Plan, NoMemory>
 }
 
 /// Commits a plan that puts one row, for a message that wasn't handled yet. 0 where it was.
+fn commit_plan(
+    alloc: Global,
+    store: &mut Store<MemCells>,
+    id: &Text,
+    incoming: &Envelope,
+    row: &Text,
+    value: i64,
+    plan: &Plan,
+) -> Result<u64, StoreFault>
+    requires full { id.now ≢ [] }
+    requires named { id_of incoming.now ≡ id.now }
+    requires one { plan.now.writes ≡ RowPut row.now value ∷ [] }
+{
+    if store.record(id).is_some() {
+        return Ok(0);
+    }
+    let ops = Items::new(alloc);
+    let endpoint = Text::new(alloc, "Sales")?;
+    store.commit(alloc, incoming, plan, &ops, &endpoint, Moment::FIRST)
+}
+
+/// The message with an id.
+fn message(alloc: Global, id: &Text) -> Result<Envelope, NoMemory>
+    requires { id.now ≢ [] }
+    ensures { IfOk result (λ e. id_of e ≡ id.now) }
+{
+    let body = Text::new(alloc, "")?;
+    Envelope::new(alloc, id, body)
+}
+
+/// Commits a row for a message that wasn't handled yet. 0 where it was.
 fn commit_row(
     alloc: Global,
     store: &mut Store<MemCells>,
@@ -42,15 +75,13 @@ fn commit_row(
     value: i64,
 ) -> Result<u64, StoreFault> {
     let id = Text::new(alloc, id)?;
-    if id.is_empty() || store.record(&id).is_some() {
+    if id.is_empty() {
         return Ok(0);
     }
-    let incoming = Envelope::new(alloc, &id, Text::new(alloc, "")?)?;
     let row = Text::new(alloc, name)?;
-    let plan = one_row(alloc, row, value)?;
-    let ops = Items::new(alloc);
-    let endpoint = Text::new(alloc, "Sales")?;
-    store.commit(alloc, &incoming, &plan, &ops, &endpoint, Moment::FIRST)
+    let incoming = message(alloc, &id)?;
+    let plan = one_row(alloc, &row, value)?;
+    commit_plan(alloc, store, &id, &incoming, &row, value, &plan)
 }
 
 /// Marks the record of a message, where there is one.
@@ -100,12 +131,17 @@ fn is_at(cells: &CellList, space: u8, key: &[u8], bytes: &[u8]) -> bool {
     })
 }
 
+/// Commits one row twice, and tells the cells.
+fn commit_twice(alloc: Global, store: &mut Store<MemCells>) -> Result<CellList, StoreFault> {
+    commit_row(alloc, store, "c1", "ann", 5)?;
+    commit_row(alloc, store, "c2", "ann", 7)?;
+    Ok(store.base().now(alloc)?)
+}
+
 /// The cells after two commits of one row.
 fn two_commits(alloc: Global) -> Result<CellList, StoreFault> {
     let mut store = empty(alloc, FaultPlan::none(alloc))?;
-    commit_row(alloc, &mut store, "c1", "ann", 5)?;
-    commit_row(alloc, &mut store, "c2", "ann", 7)?;
-    Ok(store.base().now(alloc)?)
+    commit_twice(alloc, &mut store)
 }
 
 #[test]
@@ -126,14 +162,27 @@ fn record(alloc: Global, store: &Store<MemCells>, id: &str) -> Result<(u64, bool
     }
 }
 
-/// How many records may go before and after a mark, and the record.
+/// How many records may go.
+fn purgeable(alloc: Global, store: &Store<MemCells>) -> Result<usize, NoMemory> {
+    Ok(store.purgeable(alloc, 0, Moment::FIRST)?.len())
+}
+
+/// How many records may go before and after a commit is marked, and its record.
+fn commit_and_mark(
+    alloc: Global,
+    store: &mut Store<MemCells>,
+) -> Result<(usize, usize, (u64, bool)), StoreFault> {
+    commit_row(alloc, store, "c1", "ann", 5)?;
+    let before = purgeable(alloc, store)?;
+    mark(alloc, store, "c1")?;
+    let after = purgeable(alloc, store)?;
+    Ok((before, after, record(alloc, store, "c1")?))
+}
+
+/// How many records may go before and after the mark of the first commit, and its record.
 fn after_mark(alloc: Global) -> Result<(usize, usize, (u64, bool)), StoreFault> {
     let mut store = empty(alloc, FaultPlan::none(alloc))?;
-    commit_row(alloc, &mut store, "c1", "ann", 5)?;
-    let before = store.purgeable(alloc, 0, Moment::FIRST)?.len();
-    mark(alloc, &mut store, "c1")?;
-    let after = store.purgeable(alloc, 0, Moment::FIRST)?.len();
-    Ok((before, after, record(alloc, &store, "c1")?))
+    commit_and_mark(alloc, &mut store)
 }
 
 #[test]
@@ -142,23 +191,42 @@ fn a_record_that_is_marked_may_go(rt: HostRuntime) -> Result<(), Fail> {
     Ok(())
 }
 
-/// The number of commits in a copy of the tables, and whether the record may go at once and a second later.
-fn copied(alloc: Global) -> Result<(u64, bool, bool), StoreFault> {
+/// The number of commits in a copy of the tables, after one more.
+fn commit_and_copy(alloc: Global, store: &mut Store<MemCells>) -> Result<u64, StoreFault> {
+    commit_row(alloc, store, "c1", "ann", 5)?;
+    Ok(store.all()?.commits)
+}
+
+/// The number of commits in a copy of the tables, after one commit.
+fn copied_after_one(alloc: Global) -> Result<u64, StoreFault> {
     let mut store = empty(alloc, FaultPlan::none(alloc))?;
-    commit_row(alloc, &mut store, "c1", "ann", 5)?;
-    mark(alloc, &mut store, "c1")?;
-    let id = Text::new(alloc, "c1")?;
-    let tables = store.all()?;
-    Ok((
-        tables.commits,
-        store.can_purge(&id, 0, Moment::FIRST),
-        store.can_purge(&id, 1, Moment::FIRST),
-    ))
+    commit_and_copy(alloc, &mut store)
 }
 
 #[test]
 fn all_is_copied(rt: HostRuntime) -> Result<(), Fail> {
-    assert_eq!(rt; copied(rt.alloc())?, (1, true, false));
+    assert_eq!(rt; copied_after_one(rt.alloc())?, 1);
+    Ok(())
+}
+
+/// Whether the record of a commit that is marked may go at once, and whether it may with a second of retention.
+fn marked_goes(alloc: Global, store: &mut Store<MemCells>) -> Result<(bool, bool), StoreFault> {
+    commit_row(alloc, store, "c1", "ann", 5)?;
+    mark(alloc, store, "c1")?;
+    let id = Text::new(alloc, "c1")?;
+    let at_once = store.can_purge(&id, 0, Moment::FIRST);
+    Ok((at_once, store.can_purge(&id, 1, Moment::FIRST)))
+}
+
+/// Whether the record of the first commit may go at once, and whether it may with a second of retention.
+fn first_goes(alloc: Global) -> Result<(bool, bool), StoreFault> {
+    let mut store = empty(alloc, FaultPlan::none(alloc))?;
+    marked_goes(alloc, &mut store)
+}
+
+#[test]
+fn a_record_goes_after_its_retention(rt: HostRuntime) -> Result<(), Fail> {
+    assert_eq!(rt; first_goes(rt.alloc())?, (true, false));
     Ok(())
 }
 
@@ -170,14 +238,22 @@ fn fails(alloc: Global, store: &mut Store<MemCells>) -> bool {
     )
 }
 
-/// Whether a commit failed, the number of commits then, whether a row is there, and the number of the next commit.
-fn after_failure(alloc: Global) -> Result<(bool, u64, bool, u64), StoreFault> {
-    let mut store = empty(alloc, faults(alloc, None)?)?;
-    let failed = fails(alloc, &mut store);
+/// Whether a commit fails, the number of commits then, whether a row is there, and the number of the next commit.
+fn fail_once(
+    alloc: Global,
+    store: &mut Store<MemCells>,
+) -> Result<(bool, u64, bool, u64), StoreFault> {
+    let failed = fails(alloc, store);
     let commits = store.commits();
     let row = store.row(&Text::new(alloc, "ann")?).is_some();
-    let next = commit_row(alloc, &mut store, "c1", "ann", 5)?;
+    let next = commit_row(alloc, store, "c1", "ann", 5)?;
     Ok((failed, commits, row, next))
+}
+
+/// What comes of a commit whose apply fails, and of the next one.
+fn after_failure(alloc: Global) -> Result<(bool, u64, bool, u64), StoreFault> {
+    let mut store = empty(alloc, faults(alloc, None)?)?;
+    fail_once(alloc, &mut store)
 }
 
 #[test]
@@ -186,14 +262,24 @@ fn a_failed_apply_leaves_all_as_it_was(rt: HostRuntime) -> Result<(), Fail> {
     Ok(())
 }
 
+/// The cells that the next opening finds.
+fn left(alloc: Global, store: Store<MemCells>) -> Result<CellList, NoMemory> {
+    let StoreClosed { base, tables: _ } = store.close();
+    base.left(alloc)
+}
+
+/// The number of commits that the next opening finds.
+fn found(alloc: Global, store: Store<MemCells>) -> Result<u64, NoMemory> {
+    let again = of_cells(alloc, left(alloc, store)?)?;
+    Ok(again.commits())
+}
+
 /// Whether a commit failed, the number of commits then, and what the next opening finds.
 fn after_stop(alloc: Global, stop: Stop) -> Result<(bool, u64, u64), StoreFault> {
     let mut store = empty(alloc, faults(alloc, Some(stop))?)?;
     let failed = fails(alloc, &mut store);
     let commits = store.commits();
-    let StoreClosed { base, tables: _ } = store.close();
-    let again = of_cells(alloc, base.left(alloc)?)?;
-    Ok((failed, commits, again.commits()))
+    Ok((failed, commits, found(alloc, store)?))
 }
 
 #[test]
@@ -226,18 +312,28 @@ fn sent(alloc: Global) -> Result<CellList, NoMemory> {
     Ok(cells)
 }
 
+/// The tables with a record that was sent, where the first apply fails.
+fn failing(alloc: Global) -> Result<Store<MemCells>, NoMemory> {
+    let base = MemCells::new(alloc, sent(alloc)?, faults(alloc, None)?)?;
+    match Store::start(alloc, base) {
+        Ok(store) => Ok(store),
+        Err(_) => Err(NoMemory),
+    }
+}
+
+/// Whether a commit of another message fails by its apply.
+fn second_fails(alloc: Global, store: &mut Store<MemCells>) -> bool {
+    matches!(
+        commit_row(alloc, store, "c2", "ann", 5),
+        Err(StoreFault::Failed)
+    )
+}
+
 /// Whether a record is there to be marked, where the first apply fails, and whether that one then comes at a commit.
 fn marked_again(alloc: Global) -> Result<(bool, bool), StoreFault> {
-    let base = MemCells::new(alloc, sent(alloc)?, faults(alloc, None)?)?;
-    let Ok(mut store) = Store::start(alloc, base) else {
-        return Err(StoreFault::NoMemory);
-    };
+    let mut store = failing(alloc)?;
     let marked = mark(alloc, &mut store, "c1")?;
-    let failed = matches!(
-        commit_row(alloc, &mut store, "c2", "ann", 5),
-        Err(StoreFault::Failed)
-    );
-    Ok((marked, failed))
+    Ok((marked, second_fails(alloc, &mut store)))
 }
 
 #[test]
@@ -246,17 +342,28 @@ fn a_mark_of_a_sent_record_makes_no_apply(rt: HostRuntime) -> Result<(), Fail> {
     Ok(())
 }
 
-/// The version, the revision and the number of fields of the one saga, of a count of commits and a saga's cell.
-fn saga(alloc: Global, count: u8, bytes: &[u8]) -> Result<(u64, u32, usize), NoMemory> {
+/// The cells of a count of commits and of a saga.
+fn one_saga(alloc: Global, count: u8, bytes: &[u8]) -> Result<CellList, NoMemory> {
     let mut cells = Items::new(alloc);
     cells.push(cell(alloc, 1, b"", &[1, 0, 0, 0, 0, 0, 0, 0, count])?)?;
     cells.push(cell(alloc, 2, ORDER, bytes)?)?;
-    let store = of_cells(alloc, cells)?;
-    let id = Text::new(alloc, "Sales/1/1")?;
-    match store.saga_with(&Text::new(alloc, "Order")?, &id) {
-        Some(row) => Ok((row.version, row.revision, row.fields.len())),
-        None => Ok((0, 0, 0)),
+    Ok(cells)
+}
+
+/// The version, the revision and the number of fields of a saga.
+fn counts(store: &Store<MemCells>, saga: &Text, id: &Text) -> (u64, u32, usize) {
+    match store.saga_with(saga, id) {
+        Some(row) => (row.version, row.revision, row.fields.len()),
+        None => (0, 0, 0),
     }
+}
+
+/// The version, the revision and the number of fields of the one saga, of a count of commits and a saga's cell.
+fn saga(alloc: Global, count: u8, bytes: &[u8]) -> Result<(u64, u32, usize), NoMemory> {
+    let saga = Text::new(alloc, "Order")?;
+    let id = Text::new(alloc, "Sales/1/1")?;
+    let store = of_cells(alloc, one_saga(alloc, count, bytes)?)?;
+    Ok(counts(&store, &saga, &id))
 }
 
 #[test]

@@ -31,17 +31,31 @@ fn entry(alloc: Global, front: &[u8], back: &[u8]) -> Result<Bytes, NoMemory> {
     Bytes::of_vec(out)
 }
 
-/// The place that is named as damaged, where there is one.
-fn named(alloc: Global, cells: CellList) -> Result<(u8, Bytes), NoMemory> {
-    match Post::start(alloc, MemCells::new(alloc, cells, FaultPlan::none(alloc))?) {
-        Ok(_) => Ok((0, Bytes::new(alloc, b"")?)),
+/// A post over these cells.
+fn started(alloc: Global, cells: MemCells) -> Result<Post<MemCells>, PostFault> {
+    match Post::start(alloc, cells) {
+        Ok(post) => Ok(post),
         Err(refusal) => {
             let PostRefusal { fault, .. } = refusal;
-            match fault {
-                PostFault::Damaged { space, key } => Ok((space, key)),
-                _ => Err(NoMemory),
-            }
+            Err(fault)
         }
+    }
+}
+
+/// Why no post is opened over these cells, where none is.
+fn why_not(alloc: Global, cells: MemCells) -> Option<PostFault> {
+    match started(alloc, cells) {
+        Ok(_) => None,
+        Err(fault) => Some(fault),
+    }
+}
+
+/// The place that is named as damaged, where there is one.
+fn named(alloc: Global, cells: CellList) -> Result<(u8, Bytes), NoMemory> {
+    match why_not(alloc, MemCells::new(alloc, cells, FaultPlan::none(alloc))?) {
+        None => Ok((0, Bytes::new(alloc, b"")?)),
+        Some(PostFault::Damaged { space, key }) => Ok((space, key)),
+        Some(_) => Err(NoMemory),
     }
 }
 
@@ -219,19 +233,26 @@ fn of_two_at_fault_the_least_is_named(rt: HostRuntime) -> Result<(), Fail> {
     Ok(())
 }
 
-/// What a put answers where this is the next number.
-fn put_at(alloc: Global, next: &[u8]) -> Result<u64, PostFault> {
+/// A store with nothing but this next number.
+fn at_number(alloc: Global, next: &[u8]) -> Result<MemCells, NoMemory> {
     let mut cells = Items::new(alloc);
     add(alloc, &mut cells, 1, b"", next)?;
-    let cells = MemCells::new(alloc, cells, FaultPlan::none(alloc))?;
-    let Ok(mut post) = Post::start(alloc, cells) else {
-        return Err(PostFault::NoMemory);
-    };
+    MemCells::new(alloc, cells, FaultPlan::none(alloc))
+}
+
+/// Puts a message into the queue `q`.
+fn put(alloc: Global, post: &mut Post<MemCells>) -> Result<u64, PostFault> {
     let queue = Text::new(alloc, "q")?;
     let id = Text::new(alloc, "a")?;
     let body = Text::new(alloc, "b")?;
     let envelope = Envelope::new(alloc, &id, body)?;
     post.put(alloc, &queue, None, &envelope)
+}
+
+/// What a put answers where this is the next number.
+fn put_at(alloc: Global, next: &[u8]) -> Result<u64, PostFault> {
+    let mut post = started(alloc, at_number(alloc, next)?)?;
+    put(alloc, &mut post)
 }
 
 #[test]

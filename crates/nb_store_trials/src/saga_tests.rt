@@ -1,4 +1,4 @@
-use nb_base::{Bytes, Items, NoMemory, Plan, SagaRef, Text, Value, Write};
+use nb_base::{Bytes, Items, NoMemory, Plan, SagaRef, SagaRow, Text, Value, Write};
 use nb_cells::{Cell, Change};
 use nb_envelope::FormatFault;
 use nb_saga_store::{read_row, read_saga, row_cell, saga_cell, write_changes};
@@ -48,25 +48,42 @@ fn longer(alloc: Global, bytes: &[u8]) -> Result<Bytes, NoMemory> {
     Bytes::of_vec(more)
 }
 
+/// Whether a cell has this place and these bytes.
+fn is_cell(cell: &Cell, space: u8, key: &[u8], bytes: &[u8]) -> bool {
+    cell.space == space && cell.key.as_slice() == key && cell.bytes.as_slice() == bytes
+}
+
 /// Whether reading and writing gives the same cell again.
 fn is_saga(alloc: Global, key: &[u8], bytes: &[u8]) -> Result<bool, FormatFault> {
     let again = saga_again(alloc, 2, key, bytes)?;
-    Ok(again.space == 2 && again.key.as_slice() == key && again.bytes.as_slice() == bytes)
+    Ok(is_cell(&again, 2, key, bytes))
+}
+
+/// Whether a saga has this id, version, revision and number of fields.
+fn has(row: &SagaRow, id: &str, version: u64, revision: u32, fields: usize) -> bool {
+    row.id.as_str() == id
+        && row.version == version
+        && row.revision == revision
+        && row.fields.len() == fields
+}
+
+/// Whether the saga with these bytes has this version, revision and number of fields.
+fn is_read(
+    alloc: Global,
+    bytes: &[u8],
+    version: u64,
+    revision: u32,
+    fields: usize,
+) -> Result<bool, FormatFault> {
+    let cell = cell(alloc, 2, PLACE, bytes)?;
+    let stored = read_saga(alloc, &cell)?;
+    Ok(has(&stored.row, "Sales/1/1", version, revision, fields))
 }
 
 #[test]
 fn a_saga_of_the_first_revision_is_of_format_1(rt: HostRuntime) -> Result<(), Fail> {
     let alloc = rt.alloc();
-    let stored = read_saga(alloc, &cell(alloc, 2, PLACE, FIRST)?)?;
-    assert_eq!(rt; stored.row.id.as_str(), "Sales/1/1");
-    assert_eq!(rt;
-        (
-            stored.row.version,
-            stored.row.revision,
-            stored.row.fields.len()
-        ),
-        (1, 1, 2)
-    );
+    assert!(rt; is_read(alloc, FIRST, 1, 1, 2)?);
     assert!(rt; is_saga(alloc, PLACE, FIRST)?);
     Ok(())
 }
@@ -74,15 +91,7 @@ fn a_saga_of_the_first_revision_is_of_format_1(rt: HostRuntime) -> Result<(), Fa
 #[test]
 fn a_saga_of_another_revision_is_of_format_2(rt: HostRuntime) -> Result<(), Fail> {
     let alloc = rt.alloc();
-    let stored = read_saga(alloc, &cell(alloc, 2, PLACE, SECOND)?)?;
-    assert_eq!(rt;
-        (
-            stored.row.version,
-            stored.row.revision,
-            stored.row.fields.len()
-        ),
-        (2, 2, 3)
-    );
+    assert!(rt; is_read(alloc, SECOND, 2, 2, 3)?);
     assert!(rt; is_saga(alloc, PLACE, SECOND)?);
     Ok(())
 }
@@ -90,15 +99,20 @@ fn a_saga_of_another_revision_is_of_format_2(rt: HostRuntime) -> Result<(), Fail
 /// Whether reading and writing gives the same cell again.
 fn is_row(alloc: Global, name: &[u8], bytes: &[u8]) -> Result<bool, FormatFault> {
     let again = row_again(alloc, 3, name, bytes)?;
-    Ok(again.space == 3 && again.key.as_slice() == name && again.bytes.as_slice() == bytes)
+    Ok(is_cell(&again, 3, name, bytes))
+}
+
+/// The version and the value of the row of ann.
+fn row_at_ann(alloc: Global) -> Result<(u64, i64), FormatFault> {
+    let cell = cell(alloc, 3, b"ann", ANN)?;
+    let stored = read_row(alloc, &cell)?;
+    Ok((stored.version, stored.value))
 }
 
 #[test]
 fn a_row_is_read_and_written(rt: HostRuntime) -> Result<(), Fail> {
     let alloc = rt.alloc();
-    let stored = read_row(alloc, &cell(alloc, 3, b"ann", ANN)?)?;
-    assert_eq!(rt; stored.name.as_str(), "ann");
-    assert_eq!(rt; (stored.version, stored.value), (1, 5));
+    assert_eq!(rt; row_at_ann(alloc)?, (1, 5));
     assert!(rt; is_row(alloc, b"ann", ANN)?);
     Ok(())
 }

@@ -1,4 +1,4 @@
-use nb_base::{Bytes, Items, Key, Keys, NoMemory, Seen, Text};
+use nb_base::{Bytes, Items, Key, Keys, NoMemory, Read, Reads, Seen, Text};
 use nb_cells::{Cell, CellList, FaultPlan, MemCells};
 use nb_store::{Store, StoreFault, StoreRefusal};
 use std::alloc::Global;
@@ -37,17 +37,31 @@ fn five(alloc: Global, space: u8, key: &[u8], bytes: &[u8]) -> Result<MemCells, 
     MemCells::new(alloc, cells, FaultPlan::none(alloc))
 }
 
-/// The place that is named as damaged.
-fn damaged(alloc: Global, space: u8, key: &[u8], bytes: &[u8]) -> Result<(u8, Bytes), NoMemory> {
-    match Store::start(alloc, five(alloc, space, key, bytes)?) {
-        Ok(_) => Ok((0, Bytes::new(alloc, b"")?)),
+/// The tables of these cells.
+fn started(alloc: Global, cells: MemCells) -> Result<Store<MemCells>, StoreFault> {
+    match Store::start(alloc, cells) {
+        Ok(store) => Ok(store),
         Err(refusal) => {
             let StoreRefusal { fault, .. } = refusal;
-            match fault {
-                StoreFault::Damaged { space, key } => Ok((space, key)),
-                _ => Err(NoMemory),
-            }
+            Err(fault)
         }
+    }
+}
+
+/// Why no tables are opened over these cells, where none are.
+fn why_not(alloc: Global, cells: MemCells) -> Option<StoreFault> {
+    match started(alloc, cells) {
+        Ok(_) => None,
+        Err(fault) => Some(fault),
+    }
+}
+
+/// The place that is named as damaged.
+fn damaged(alloc: Global, space: u8, key: &[u8], bytes: &[u8]) -> Result<(u8, Bytes), NoMemory> {
+    match why_not(alloc, five(alloc, space, key, bytes)?) {
+        None => Ok((0, Bytes::new(alloc, b"")?)),
+        Some(StoreFault::Damaged { space, key }) => Ok((space, key)),
+        Some(_) => Err(NoMemory),
     }
 }
 
@@ -58,62 +72,81 @@ fn is_damaged(alloc: Global, space: u8, key: &[u8], bytes: &[u8]) -> Result<bool
 }
 
 /// The tables of the five cells.
-fn opened(alloc: Global) -> Result<Store<MemCells>, NoMemory> {
-    let base = five(alloc, 3, b"bob", ANN)?;
-    match Store::start(alloc, base) {
-        Ok(store) => Ok(store),
-        Err(_) => Err(NoMemory),
-    }
+fn opened(alloc: Global) -> Result<Store<MemCells>, StoreFault> {
+    started(alloc, five(alloc, 3, b"bob", ANN)?)
 }
 
-/// What stands at a key.
-fn seen_at(alloc: Global, key: Key) -> Result<Option<Seen>, NoMemory> {
-    let store = opened(alloc)?;
+/// The key of the saga Order with an id.
+fn saga_by_id(alloc: Global, id: &str) -> Result<Keys, NoMemory> {
+    let saga = Text::new(alloc, "Order")?;
+    let id = Text::new(alloc, id)?;
     let mut keys: Keys = Items::new(alloc);
-    keys.push(key)?;
-    let mut reads = store.read(alloc, &keys)?.into_vec();
-    match reads.pop() {
-        Some(read) => Ok(Some(read.seen)),
-        None => Ok(None),
+    keys.push(Key::ById { saga, id })?;
+    Ok(keys)
+}
+
+/// What stands at these keys.
+fn read(alloc: Global, keys: &Keys) -> Result<Reads, StoreFault> {
+    let store = opened(alloc)?;
+    Ok(store.read(alloc, keys)?)
+}
+
+/// The version of the saga that was read first, or 0.
+fn version_of(reads: &Reads) -> u64 {
+    match reads.as_slice() {
+        [
+            Read {
+                seen: Seen::Saga(row),
+                ..
+            },
+            ..
+        ] => row.version,
+        _ => 0,
     }
 }
 
 #[test]
 fn a_saga_is_read_by_its_id(rt: HostRuntime) -> Result<(), Fail> {
     let alloc = rt.alloc();
-    let saga = Text::new(alloc, "Order")?;
-    let id = Text::new(alloc, "Sales/2/1")?;
-    let seen = seen_at(alloc, Key::ById { saga, id })?;
-    assert!(rt; matches!(&seen, Some(Seen::Saga(row)) if row.version == 2));
+    let keys = saga_by_id(alloc, "Sales/2/1")?;
+    assert_eq!(rt; version_of(&read(alloc, &keys)?), 2);
     Ok(())
 }
 
-/// The number of a record, and of commits.
-fn numbers(alloc: Global, id: &str) -> Result<(u64, u64), NoMemory> {
+/// The number of a record, or 0, and whether it was sent.
+fn record(store: &Store<MemCells>, id: &Text) -> Result<(u64, bool), NoMemory> {
+    match store.outbox(id)? {
+        Some(row) => Ok((row.n, row.sent)),
+        None => Ok((0, false)),
+    }
+}
+
+/// The number of a record, or 0, where the tables are opened.
+fn number(alloc: Global, id: &Text) -> Result<u64, StoreFault> {
     let store = opened(alloc)?;
-    let id = Text::new(alloc, id)?;
-    let n = match store.outbox(&id)? {
-        Some(row) => row.n,
-        None => 0,
-    };
-    Ok((n, store.close().tables.commits))
+    Ok(record(&store, id)?.0)
+}
+
+/// The number of commits in the tables that are handed out.
+fn commits(alloc: Global) -> Result<u64, StoreFault> {
+    let store = opened(alloc)?;
+    Ok(store.close().tables.commits)
 }
 
 #[test]
 fn a_record_is_found(rt: HostRuntime) -> Result<(), Fail> {
     let alloc = rt.alloc();
-    assert_eq!(rt; numbers(alloc, "c1")?, (1, 2));
-    assert_eq!(rt; numbers(alloc, "c2")?, (0, 2));
+    assert_eq!(rt; number(alloc, &Text::new(alloc, "c1")?)?, 1);
+    assert_eq!(rt; number(alloc, &Text::new(alloc, "c2")?)?, 0);
+    assert_eq!(rt; commits(alloc)?, 2);
     Ok(())
 }
 
 /// Takes the record out, where it is there and was sent.
 fn purged(alloc: Global, store: &mut Store<MemCells>, id: &Text) -> Result<bool, StoreFault> {
-    let Some(row) = store.outbox(id)? else {
-        return Ok(false);
-    };
-    if !row.sent {
-        return Ok(false);
+    match store.record(id) {
+        Some(row) if row.sent => {}
+        _ => return Ok(false),
     }
     store.purge(alloc, id)?;
     Ok(true)
