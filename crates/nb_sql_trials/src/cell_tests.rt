@@ -4,7 +4,7 @@ ghost use Rattle.nb_cells.specs.Cells.{IsSpace};
 use nb_base::{Bytes, Items, NoMemory};
 use nb_cells::{CellFault, CellList, Cells, Change, Changes};
 use nb_sql::{FileCells, SqlCells};
-use sqlite::{Connection, FileStore, Files, Options, Unknown};
+use sqlite::{Connection, FileStore, Files, MemStore, Options, Unknown};
 use sqlite_disk::{Disk, Fuse, Memory};
 use std::alloc::Global;
 use std::test::Fail;
@@ -13,11 +13,9 @@ use std::{fs, io};
 fn put_of(alloc: Global, space: u8, key: &str, bytes: &str) -> Result<Change, NoMemory>
     ensures { IfOk result (λ c. c ≡ Change.Put space key.now bytes.now) }
 {
-    Ok(Change::Put {
-        space,
-        key: Bytes::new(alloc, key.as_bytes())?,
-        bytes: Bytes::new(alloc, bytes.as_bytes())?,
-    })
+    let key = Bytes::new(alloc, key.as_bytes())?;
+    let bytes = Bytes::new(alloc, bytes.as_bytes())?;
+    Ok(Change::Put { space, key, bytes })
 }
 
 fn erase_of(alloc: Global, space: u8, key: &str) -> Result<Change, NoMemory>
@@ -90,66 +88,108 @@ fn hold<C: Cells>(
     Ok(are(&one, first) && are(&two, second))
 }
 
+/// Whether a place has these bytes.
+fn has<C: Cells>(
+    alloc: Global,
+    cells: &mut C,
+    space: u8,
+    key: &Bytes,
+    bytes: &[u8],
+) -> Result<bool, CellFault>
+    requires { IsSpace space }
+{
+    match cells.get(alloc, space, key)? {
+        Some(found) => Ok(found.as_slice() == bytes),
+        None => Ok(false),
+    }
+}
+
+/// Puts a cell, and tells whether it is got at its place and at no other, without a fault.
+fn is_got<C: Cells>(alloc: Global, cells: &mut C) -> Result<bool, CellFault> {
+    put(alloc, cells, 2, "b", "two")?;
+    let key = Bytes::new(alloc, b"b")?;
+    let got = has(alloc, cells, 2, &key, b"two")? && cells.get(alloc, 1, &key)?.is_none();
+    Ok(got && cells.faults() == 0)
+}
+
 #[test]
 fn cells_are_got(rt: HostRuntime) -> Result<(), Fail> {
     let alloc = rt.alloc();
     let mut cells = SqlCells::in_memory(alloc)?;
-    put(alloc, &mut cells, 2, "b", "two")?;
-    let key = Bytes::new(alloc, b"b")?;
-    let found = cells.get(alloc, 2, &key)?.ok_or("there")?;
-    assert_eq!(rt; found.as_slice(), b"two".as_slice());
-    assert!(rt; cells.get(alloc, 1, &key)?.is_none());
-    assert_eq!(rt; cells.faults(), 0);
+    assert!(rt; is_got(alloc, &mut cells)?);
     Ok(())
+}
+
+/// Puts four cells in no order.
+fn put_unordered<C: Cells>(alloc: Global, cells: &mut C) -> Result<(), CellFault> {
+    put(alloc, cells, 2, "b", "1")?;
+    put(alloc, cells, 2, "ab", "2")?;
+    put(alloc, cells, 1, "c", "3")?;
+    put(alloc, cells, 2, "a", "")
+}
+
+/// Puts four cells in no order, and tells whether they are scanned by rising keys.
+fn are_ordered<C: Cells>(alloc: Global, cells: &mut C) -> Result<bool, CellFault> {
+    put_unordered(alloc, cells)?;
+    let told = hold(
+        alloc,
+        cells,
+        &[(1, "c", "3")],
+        &[(2, "a", ""), (2, "ab", "2"), (2, "b", "1")],
+    )?;
+    Ok(told && cells.scan(alloc, 3)?.is_empty())
 }
 
 #[test]
 fn cells_are_scanned_by_rising_keys(rt: HostRuntime) -> Result<(), Fail> {
     let alloc = rt.alloc();
     let mut cells = SqlCells::in_memory(alloc)?;
-    put(alloc, &mut cells, 2, "b", "1")?;
-    put(alloc, &mut cells, 2, "ab", "2")?;
-    put(alloc, &mut cells, 1, "c", "3")?;
-    put(alloc, &mut cells, 2, "a", "")?;
-    assert!(rt;
-        hold(
-            alloc,
-            &mut cells,
-            &[(1, "c", "3")],
-            &[(2, "a", ""), (2, "ab", "2"), (2, "b", "1")]
-        )?
-    );
-    assert!(rt; cells.scan(alloc, 3)?.is_empty());
+    assert!(rt; are_ordered(alloc, &mut cells)?);
     Ok(())
+}
+
+/// Puts cells at the places that turn, and turns them.
+fn put_and_turn<C: Cells>(alloc: Global, cells: &mut C) -> Result<(), CellFault> {
+    put(alloc, cells, 1, "a", "old")?;
+    put(alloc, cells, 2, "b", "old")?;
+    turn(alloc, cells)
 }
 
 #[test]
 fn changes_are_made_together(rt: HostRuntime) -> Result<(), Fail> {
     let alloc = rt.alloc();
     let mut cells = SqlCells::in_memory(alloc)?;
-    put(alloc, &mut cells, 1, "a", "old")?;
-    put(alloc, &mut cells, 2, "b", "old")?;
-    turn(alloc, &mut cells)?;
+    put_and_turn(alloc, &mut cells)?;
     assert!(rt; hold(alloc, &mut cells, &[(1, "a", "new")], &[])?);
     Ok(())
+}
+
+/// Puts a cell elsewhere, and turns those that aren't there.
+fn put_elsewhere_and_turn<C: Cells>(alloc: Global, cells: &mut C) -> Result<(), CellFault> {
+    put(alloc, cells, 1, "b", "one")?;
+    turn(alloc, cells)
 }
 
 #[test]
 fn an_erase_of_no_cell_changes_nothing(rt: HostRuntime) -> Result<(), Fail> {
     let alloc = rt.alloc();
     let mut cells = SqlCells::in_memory(alloc)?;
-    put(alloc, &mut cells, 1, "b", "one")?;
-    turn(alloc, &mut cells)?;
+    put_elsewhere_and_turn(alloc, &mut cells)?;
     assert!(rt; hold(alloc, &mut cells, &[(1, "a", "new"), (1, "b", "one")], &[])?);
     Ok(())
+}
+
+/// A connection with one cell.
+fn released(alloc: Global) -> Result<Connection<MemStore>, CellFault> {
+    let mut cells = SqlCells::in_memory(alloc)?;
+    put(alloc, &mut cells, 1, "a", "one")?;
+    Ok(cells.release())
 }
 
 #[test]
 fn a_released_connection_is_adopted_again(rt: HostRuntime) -> Result<(), Fail> {
     let alloc = rt.alloc();
-    let mut cells = SqlCells::in_memory(alloc)?;
-    put(alloc, &mut cells, 1, "a", "one")?;
-    let mut again = SqlCells::adopt(cells.release())?;
+    let mut again = SqlCells::adopt(released(alloc)?)?;
     assert!(rt; hold(alloc, &mut again, &[(1, "a", "one")], &[])?);
     Ok(())
 }
@@ -162,35 +202,57 @@ fn a_connection_in_a_transaction_is_refused(rt: HostRuntime) -> Result<(), Fail>
     Ok(())
 }
 
-/// Puts a cell into the file at a path.
+/// Puts two cells.
+fn put_two<C: Cells>(alloc: Global, cells: &mut C) -> Result<(), CellFault> {
+    put(alloc, cells, 1, "a", "old")?;
+    put(alloc, cells, 2, "b", "old")
+}
+
+/// Puts two cells into the file at a path.
 fn fill(rt: &HostRuntime, path: &str) -> Result<(), CellFault> {
     let mut cells = FileCells::in_file(rt, path)?;
-    put(rt.alloc(), &mut cells, 1, "a", "old")?;
-    put(rt.alloc(), &mut cells, 2, "b", "old")
+    put_two(rt.alloc(), &mut cells)
+}
+
+/// Whether the file at a path is refused.
+fn is_refused(rt: &HostRuntime, path: &str) -> bool {
+    matches!(&FileCells::in_file(rt, path), Err(CellFault::Failed))
+}
+
+/// Turns cells, and tells whether the file at a path is refused meanwhile.
+fn turn_meanwhile<C: Cells>(
+    rt: &HostRuntime,
+    path: &str,
+    cells: &mut C,
+) -> Result<bool, CellFault> {
+    turn(rt.alloc(), cells)?;
+    Ok(is_refused(rt, path))
+}
+
+/// Turns the cells of the file at a path, and tells whether it is refused to another one meanwhile.
+fn turn_file(rt: &HostRuntime, path: &str) -> Result<bool, CellFault> {
+    let mut cells = FileCells::in_file(rt, path)?;
+    turn_meanwhile(rt, path, &mut cells)
+}
+
+/// Whether the cells that were turned are told without a fault.
+fn hold_turned<C: Cells>(alloc: Global, cells: &mut C) -> Result<bool, CellFault> {
+    Ok(hold(alloc, cells, &[(1, "a", "new")], &[])? && cells.faults() == 0)
+}
+
+/// Whether the file at a path has the cells that were turned.
+fn is_turned(rt: &HostRuntime, path: &str) -> Result<bool, CellFault> {
+    let mut cells = SqlCells::in_file_from(rt, path, Unknown)?;
+    hold_turned(rt.alloc(), &mut cells)
 }
 
 #[test]
 fn a_file_is_opened_again(rt: HostRuntime) -> Result<(), Fail> {
-    let alloc = rt.alloc();
     let _ = fs::remove_dir_all(&rt, "nb_sql_test");
     fs::create_dir(&rt, "nb_sql_test")?;
     fill(&rt, "nb_sql_test/a.db")?;
-    let mut cells = FileCells::in_file(&rt, "nb_sql_test/a.db")?;
-    turn(alloc, &mut cells)?;
-    let key = Bytes::new(alloc, b"a")?;
-    let found = cells.get(alloc, 1, &key)?.ok_or("there")?;
-    assert_eq!(rt; found.as_slice(), b"new".as_slice());
-    assert!(rt;
-        matches!(
-            &FileCells::in_file(&rt, "nb_sql_test/a.db"),
-            Err(CellFault::Failed)
-        )
-    );
-    drop(cells);
-    let mut again = SqlCells::in_file_from(&rt, "nb_sql_test/a.db", Unknown)?;
-    assert!(rt; hold(alloc, &mut again, &[(1, "a", "new")], &[])?);
-    assert_eq!(rt; again.faults(), 0);
-    drop(again);
+    assert!(rt; turn_file(&rt, "nb_sql_test/a.db")?);
+    assert!(rt; is_turned(&rt, "nb_sql_test/a.db")?);
     fs::remove_dir_all(&rt, "nb_sql_test")?;
     Ok(())
 }
@@ -238,9 +300,21 @@ fn found_again(alloc: Global, cells: Fused, calls: u64) -> Option<Fused> {
 /// Cells over a log that fails after so many calls, opened again after they were filled.
 fn filled(alloc: Global, calls: u64) -> Option<Fused> {
     let mut cells = fused(alloc, Memory::new(alloc), Memory::new(alloc), u64::MAX)?;
-    put(alloc, &mut cells, 1, "a", "old").ok()?;
-    put(alloc, &mut cells, 2, "b", "old").ok()?;
+    put_two(alloc, &mut cells).ok()?;
     found_again(alloc, cells, calls)
+}
+
+/// Whether the old and the new cells are held.
+fn old_and_new<C: Cells>(alloc: Global, cells: &mut C) -> Result<(bool, bool), CellFault> {
+    let old = hold(alloc, cells, &[(1, "a", "old")], &[(2, "b", "old")])?;
+    let new = hold(alloc, cells, &[(1, "a", "new")], &[])?;
+    Ok((old, new))
+}
+
+/// Whether the old and the new cells are found when the files are opened again.
+fn found_after(alloc: Global, cells: Fused) -> Option<(bool, bool)> {
+    let mut again = found_again(alloc, cells, u64::MAX)?;
+    old_and_new(alloc, &mut again).ok()
 }
 
 /// What comes of an apply whose log fails: what it answers, the count of faults, and whether the old and the new cells are
@@ -249,9 +323,7 @@ fn stopped(alloc: Global, calls: u64) -> Option<(Result<(), CellFault>, u64, boo
     let mut cells = filled(alloc, calls)?;
     let answer = turn(alloc, &mut cells);
     let faults = cells.faults();
-    let mut again = found_again(alloc, cells, u64::MAX)?;
-    let old = hold(alloc, &mut again, &[(1, "a", "old")], &[(2, "b", "old")]).ok()?;
-    let new = hold(alloc, &mut again, &[(1, "a", "new")], &[]).ok()?;
+    let (old, new) = found_after(alloc, cells)?;
     Some((answer, faults, old, new))
 }
 
