@@ -86,10 +86,14 @@ CanGo meaning name from_saga (target.Reply to) = to ≢ []
 CanGo meaning name from_saga (target.Originator to original) = to ≢ []
 CanGo meaning name from_saga target.Timeout = from_saga ≡ true
 
+-- the most messages that a handling sends
+abbrev pub most_intents : ℕ
+most_intents = 256
+
 pub record IsRightPlan (meaning : Meaning) (t : Stored) (plan : Plan) : Type 0 where
   pub apart : AreApart plan.writes
   pub writes : AllByRecursion (IsRightWrite meaning t) plan.writes
-  pub few : length plan.intents ≤ 256
+  pub few : length plan.intents ≤ most_intents
   pub targets : AllByRecursion (λ (x : Intent). CanGo meaning x.name (is_some x.from) x.target) plan.intents
 
 -- The verdict on whole tables is that on what they show at the keys, and its plans keep the tables sound.

@@ -60,11 +60,15 @@ pub record IsSoundStored (t : Stored) : Type 0 where
   pub ids : (p q : SagaKey) (a b : SagaRow) → map.get t.sagas p ≡ Some a → map.get t.sagas q ≡ Some b → a.id ≡ b.id → p ≡ q
   pub rows : (name : List ℕ) (row : Row) → map.get t.rows name ≡ Some row → IsVersion t.commits row.version
 
+-- the most messages that one batch has
+abbrev pub most_ops : ℕ
+most_ops = 4096
+
 -- the record of the message with this id; a sent one has no ops
 pub record IsSoundRecord (commits : ℕ) (id : List ℕ) (r : OutboxRow) : Type 0 where
   pub named : id ≢ []
   pub number : IsVersion commits r.n
-  pub few : length r.ops ≤ 4096
+  pub few : length r.ops ≤ most_ops
   pub queues : AllByRecursion (λ (op : Op). op.queue ≢ []) r.ops
   pub ids : AllByRecursion (λ (op : Op). has_id op.envelope.headers ≡ true) r.ops
   pub sent : r.sent ≡ true → r.ops ≡ []

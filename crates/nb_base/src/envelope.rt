@@ -44,7 +44,9 @@ impl Envelope {
 
     /// A message with these headers, where they have an id that isn't empty.
     pub fn of_headers(headers: Headers, body: Text) -> Option<Envelope>
-        ensures { result ≡ (if has_id headers then Some (record { headers = headers; body = body }) else None) }
+        ensures { result ≡ (if has_id headers
+            then Some (record { headers = headers; body = body })
+            else None) }
     {
         let _count = headers.len();
         match headers.get(MESSAGE_ID) {
@@ -81,7 +83,8 @@ impl Envelope {
     /// Sets a header in its place, or adds it at the end.
     pub fn set_header(&mut self, alloc: Global, name: &str, text: Text) -> Result<(), NoMemory>
         requires { name.now ≡ id_name → 0 < length text }
-        ensures ok { OnOk result (self.new ≡ record self.old { headers = with_header self.old.headers name.now text }) }
+        ensures ok { OnOk result
+            (self.new ≡ record self.old { headers = with_header self.old.headers name.now text }) }
         ensures err { OnErr result (self.new ≡ self.old) }
     {
         self.headers.set(alloc, name, text)?;
@@ -91,7 +94,8 @@ impl Envelope {
     /// Takes a header out, and closes up.
     pub fn without(&mut self, name: &str)
         requires { name.now ≢ id_name }
-        ensures { self.new ≡ record self.old { headers = without_header self.old.headers name.now } }
+        ensures { self.new ≡
+            record self.old { headers = without_header self.old.headers name.now } }
     {
         self.headers.remove(name);
     }

@@ -36,7 +36,10 @@ pub trait Handling {
         reads: Reads,
     ) -> Result<Outcome, NoMemory>
         requires { IsShown (meaning self.now) envelope.now reads }
-        ensures { IfOk result (λ o. o ≡ record { reads = reads; verdict = (meaning self.now).on_reads reads envelope.now moment }) };
+        ensures { IfOk result (λ o. o ≡ record {
+          reads = reads;
+          verdict = (meaning self.now).on_reads reads envelope.now moment;
+        }) };
 
     /// Whether the script takes a stored saga of this type.
     fn fits(&self, saga: &Text, row: &SagaRow) -> bool

@@ -1,5 +1,8 @@
 //! A sink in memory, whose calls fail where a list says so.
-ghost use Rattle.std.specs.Prelude.{◌≡◌, ◌<◌, ◌≤◌, [], vec_capacity, IfOk};
+ghost use Rattle.std.specs.Prelude.{◌≡◌, ◌<◌, ◌≤◌, length, IfOk};
+ghost use Rattle.std.specs.Io.KnownBytes.{WriteAppends};
+ghost use Rattle.nb_base.specs.Causes.{HasCause};
+ghost use Rattle.nb_base.specs.Stream.{empty_intake, write_answer, after_write};
 
 use crate::failed::Failed;
 use crate::mem_source::is_listed;
@@ -22,11 +25,18 @@ pub struct MemSink {
 
 impl Model for MemSink {
     ghost use Rattle.std.specs.Prelude.{◌<◌, ◌≤◌, vec_capacity};
-    ghost use Rattle.nb_base.specs.Stream.{Stream};
+    ghost use Rattle.nb_base.specs.Stream.{Intake};
 
-    ghost Value = { Stream };
+    ghost Value = { Intake };
 
-    ghost view = { λ s. record { bytes = s.bytes.items; faults = s.faults } };
+    ghost view = { λ s. record {
+      bytes = s.bytes.items;
+      room = s.room;
+      piece = s.piece;
+      fails = s.fails;
+      calls = s.calls;
+      faults = s.faults;
+    } };
 
     ghost invariant = { λ s. (s.room ≤ vec_capacity s.bytes) × (0 < s.piece) };
 }
@@ -41,7 +51,7 @@ impl MemSink {
         fails: Numbers,
     ) -> Result<MemSink, NoMemory>
         requires { 0 < piece }
-        ensures { IfOk result (λ s. s ≡ record { bytes = []; faults = 0 }) }
+        ensures { IfOk result (λ s. s ≡ empty_intake piece room fails) }
     {
         let bytes = Vec::with_capacity(alloc, room)?;
         Ok(MemSink {
@@ -69,7 +79,13 @@ impl Sink for MemSink {
 
     ghost count = { λ s. s.faults };
 
-    fn write(&mut self, from: &[u8]) -> Result<usize, Failed> {
+    fn write(&mut self, from: &[u8]) -> Result<usize, Failed>
+        ensures answer { result ≡ write_answer self.old (length from.now) }
+        ensures after { self.new ≡ after_write self.old from.now }
+        ensures bound { IfOk result (λ n. (0 < n) × (n ≤ length from.now)) }
+        ensures bytes { WriteAppends (Some self.old.bytes) (Some self.new.bytes) result from.now }
+        ensures cause { HasCause self.old.faults self.new.faults result }
+    {
         self.calls = self.calls.saturating_add(1);
         let left = self.room.saturating_sub(self.bytes.len());
         let n = from.len().min(self.piece).min(left);

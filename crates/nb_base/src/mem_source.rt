@@ -1,5 +1,9 @@
 //! A source in memory, whose calls fail where a list says so.
-ghost use Rattle.std.specs.Prelude.{◌≡◌, ◌<◌, ◌≤◌, drop, length};
+ghost use Rattle.std.specs.Prelude.{◌≡◌, ◌<◌, length};
+ghost use Rattle.std.specs.Io.{ReadsAtMost};
+ghost use Rattle.std.specs.Io.KnownBytes.{ReadConsumes};
+ghost use Rattle.nb_base.specs.Causes.{HasCause};
+ghost use Rattle.nb_base.specs.Stream.{is_listed, supply, read_answer, after_read};
 
 use crate::bytes::Bytes;
 use crate::failed::Failed;
@@ -9,8 +13,10 @@ use crate::value::Numbers;
 use std::marker::Model;
 
 /// Whether the call with this number fails.
-pub(crate) fn is_listed(fails: &[u64], call: u64) -> bool {
-    fails.iter().any(|f| *f == call)
+pub(crate) fn is_listed(fails: &[u64], call: u64) -> bool
+    ensures { result ≡ is_listed fails.now call }
+{
+    fails.contains(&call)
 }
 
 /// A source of bytes in memory.
@@ -26,11 +32,17 @@ pub struct MemSource {
 
 impl Model for MemSource {
     ghost use Rattle.std.specs.Prelude.{◌<◌, ◌≤◌, drop, length};
-    ghost use Rattle.nb_base.specs.Stream.{Stream};
+    ghost use Rattle.nb_base.specs.Stream.{Supply};
 
-    ghost Value = { Stream };
+    ghost Value = { Supply };
 
-    ghost view = { λ s. record { bytes = drop s.at s.bytes; faults = s.faults } };
+    ghost view = { λ s. record {
+      bytes = drop s.at s.bytes;
+      piece = s.piece;
+      fails = s.fails;
+      calls = s.calls;
+      faults = s.faults;
+    } };
 
     ghost invariant = { λ s. (s.at ≤ length s.bytes) × (0 < s.piece) };
 }
@@ -40,7 +52,7 @@ impl MemSource {
     /// counted from 1.
     pub fn new(bytes: Bytes, piece: usize, fails: Numbers) -> MemSource
         requires { 0 < piece }
-        ensures { result ≡ record { bytes = bytes; faults = 0 } }
+        ensures { result ≡ supply bytes piece fails }
     {
         MemSource {
             bytes,
@@ -60,7 +72,13 @@ impl Source for MemSource {
 
     ghost count = { λ s. s.faults };
 
-    fn read(&mut self, into: &mut [u8]) -> Result<usize, Failed> {
+    fn read(&mut self, into: &mut [u8]) -> Result<usize, Failed>
+        ensures answer { result ≡ read_answer self.old (length into.old) }
+        ensures after { self.new ≡ after_read self.old (length into.old) }
+        ensures bound { ReadsAtMost result into.new }
+        ensures bytes { ReadConsumes (Some self.old.bytes) (Some self.new.bytes) result into.new }
+        ensures cause { HasCause self.old.faults self.new.faults result }
+    {
         self.calls = self.calls.saturating_add(1);
         if is_listed(self.fails.as_slice(), self.calls) {
             self.faults = self.faults.saturating_add(1);

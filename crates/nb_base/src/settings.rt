@@ -25,7 +25,8 @@ pub struct Settings {
     pub routes: Routes,
     pub subscribers: Subscribers,
     pub policies: Policies,
-    ghost sound: { IsTrue (are_settings endpoint error immediate delayed increase retention routes subscribers policies) },
+    ghost sound: { IsTrue (are_settings endpoint error immediate delayed increase retention
+        routes subscribers policies) },
 }
 
 impl Copied for Settings {

@@ -32,7 +32,8 @@ pub struct WriteStop {
 /// Appends all of the bytes.
 pub fn write_all<O: Sink>(out: &mut O, from: &[u8]) -> Result<(), WriteStop>
     ensures ok { OnOk result (Appends (O.held out.old) (O.held out.new) from.now) }
-    ensures err { IfErr result (λ e. (e.written < length from.now) × Appends (O.held out.old) (O.held out.new) (take e.written from.now)) }
+    ensures err { IfErr result (λ e. (e.written < length from.now)
+        × Appends (O.held out.old) (O.held out.new) (take e.written from.now)) }
     ensures cause { HasCause (O.count out.old) (O.count out.new) result }
 {
     let mut at = 0;

@@ -1,7 +1,8 @@
 use nb_base::{
-    ByName, ByNumber, BySaga, Bytes, Clock, Copied, Envelope, FixedClock, Gate, HostClock, Items,
-    MESSAGE_ID, MemSink, MemSource, Moment, Names, NoMemory, Numbers, OpenGate, Point, ReadSource,
-    ReadStop, SagaKey, Sink, Source, Text, Value, WriteSink, WriteStop, read_all, write_all,
+    ByName, ByNumber, BySaga, Bytes, Clock, Copied, Envelope, FixedClock, Gate, HoldGate,
+    HostClock, Items, MESSAGE_ID, MemSink, MemSource, Moment, Names, NoMemory, Numbers, OpenGate,
+    Point, ReadSource, ReadStop, SagaKey, Sink, Source, Text, Value, WriteSink, WriteStop,
+    read_all, write_all,
 };
 use std::alloc::Global;
 use std::test::Fail;
@@ -116,6 +117,30 @@ fn clocks_tell_moments(rt: HostRuntime) -> Result<(), Fail> {
     assert!(rt; HostClock::new(&rt).now().seconds() > 1700000000);
     assert!(rt; Moment::new(253402300800).is_none());
     OpenGate.pass(0, Point::AfterLook);
+    Ok(())
+}
+
+/// Passes a point, as a worker does at a gate that several share.
+fn pass<G: Gate + Sync>(gate: &G, w: u32, point: Point) {
+    gate.pass(w, point);
+}
+
+#[test]
+fn a_gate_gives_up_where_a_worker_does_not_come(rt: HostRuntime) -> Result<(), Fail> {
+    let gate = HoldGate::new(Point::BeforeSettle, 2, 3);
+    pass(&gate, 0, Point::AfterLook);
+    assert!(rt; !gate.gave_up());
+    pass(&gate, 0, Point::BeforeSettle);
+    assert!(rt; gate.gave_up());
+    Ok(())
+}
+
+#[test]
+fn a_gate_opens_once_all_have_come(rt: HostRuntime) -> Result<(), Fail> {
+    let gate = HoldGate::new(Point::AfterLook, 1, 3);
+    pass(&gate, 5, Point::AfterLook);
+    pass(&gate, 5, Point::AfterLook);
+    assert!(rt; !gate.gave_up());
     Ok(())
 }
 
