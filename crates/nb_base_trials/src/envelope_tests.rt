@@ -1,4 +1,4 @@
-use nb_base::{Envelope, Text};
+use nb_base::{Copied, Envelope, Text};
 use nb_envelope::{
     FormatFault, InputFault, InputKind, LineFault, Place, from_cell, read_line, read_lines,
     to_cell, write_line,
@@ -250,4 +250,23 @@ fn a_line_of_an_input_ends_at_its_limit(rt: HostRuntime) -> Result<(), Fail> {
     let long = vec![in alloc; b'x'; 262145]?;
     assert_eq!(rt; counted(alloc, long.as_slice())?.as_str(), "1 TooLong");
     Ok(())
+}
+
+#[test]
+fn a_fault_of_an_input_is_copied(rt: HostRuntime) -> Result<(), Fail> {
+    let alloc = rt.alloc();
+    match read_lines(alloc, b"{\"headers\":{\"a\":1}}") {
+        Ok(_) => Err("read".into()),
+        Err(fault) => {
+            let copy = fault.copy()?;
+            assert_eq!(rt; copy.line, 1);
+            assert!(rt;
+                matches!(
+                &copy.kind,
+                InputKind::Line(LineFault::NotEnvelope(Place::Header(name))) if name.as_str() == "a"
+            )
+            );
+            Ok(())
+        }
+    }
 }

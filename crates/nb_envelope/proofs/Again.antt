@@ -1,9 +1,8 @@
 -- What is written is read again.
-use Rattle.std.specs.Prelude.{◌≡◌, ◌≤◌, ◌<◌, ℕ, zero, suc, List, [], ◌∷◌, length, fold, max, Bool, true, false, cond, bytes_eq, nat_lt, Option, Some, None, IsUtf8, Result, Ok, Err, codes, refl}
-use Rattle.std.proofs.Common.{◌∙◌, sym, ap, arith, ltb-true, lt-ltb}
+use Rattle.std.specs.Prelude.{◌≡◌, ◌≤◌, ℕ, List, [], ◌∷◌, length, fold, Bool, true, false, cond, bytes_eq, nat_lt, Option, Some, None, IsUtf8, Ok, refl}
+use Rattle.std.proofs.Common.{◌∙◌, ap, arith}
 use Rattle.std.specs.List.{IsDistinct, AllByRecursion}
 use Rattle.std.specs.Option.{option_or, option_map_or}
-use Rattle.std.specs.Str.{is_utf8}
 use Rattle.std.proofs.lemmas.Str.{is_utf8-from_IsUtf8}
 use Rattle.std.proofs.lemmas.Map.Text.{is_eq-slice_cmp}
 use Rattle.std.specs.Cmp.Lexicographic.{bytes_decides, slice_cmp}
@@ -13,8 +12,7 @@ use Rattle.std.specs.Ordering.{nat_cmp, is_eq, match_ordering}
 use Rattle.serde_json.specs.Data.{Data, depth, members_depth}
 use Rattle.serde_json.specs.Read.{read}
 use Rattle.nb_base.specs.Messages.{Pairs, Message, IsMessage, AreDistinct, names, header, has_id, id_name}
-use Rattle.nb_envelope.specs.declared.line.LineFault.{LineFault}
-use Rattle.nb_envelope.specs.Lines.{headers_in, json_of, line_of, message_of}
+use Rattle.nb_envelope.specs.Lines.{most_line_bytes, line_of, message_of}
 use Rattle.nb_envelope.specs.Written.{put_pair, by_name, as_members, data_of}
 use Rattle.nb_envelope.proofs.Writing.{headers_in-as_members}
 
@@ -64,9 +62,9 @@ sorted_id m sound = ap (λ (o : Option (List ℕ)). option_map_or (λ t. nat_lt 
 message_again : (m : Message) → IsMessage m → message_of (Some (data_of m)) ≡ Ok (record { headers = by_name m.headers; body = m.body })
 message_again m sound = rw (headers_in-as_members (by_name m.headers), sorted_id m sound) refl
 
-pub line_again : (m : Message) (t : List ℕ) → IsMessage m → IsUtf8 t → read t ≡ Some (data_of m) → length t ≤ 262144 → line_of t ≡ Ok (record { headers = by_name m.headers; body = m.body })
+pub line_again : (m : Message) (t : List ℕ) → IsMessage m → IsUtf8 t → read t ≡ Some (data_of m) → length t ≤ most_line_bytes → line_of t ≡ Ok (record { headers = by_name m.headers; body = m.body })
 line_again m t sound utf8 is short =
-    let fits : nat_lt 262144 (length t) ≡ false = grind arith in
+    let fits : nat_lt most_line_bytes (length t) ≡ false = grind arith in
     rw (fits, is_utf8-from_IsUtf8 t utf8, is) (message_again m sound)
 
 pub read_value : (d : Data) (m : Message) (s : List ℕ) → d ≡ data_of m → (depth d ≤ 127 → read s ≡ Some d) → read s ≡ Some (data_of m)

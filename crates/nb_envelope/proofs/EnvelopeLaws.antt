@@ -7,7 +7,7 @@ use Rattle.nb_envelope.specs.Spelling.{spelled_list, spelled_header, spelled_tex
 use Rattle.nb_envelope.specs.Cells.{◌>>=◌, text_in, list_in, header_in, are_distinct, headers_in, envelope_in}
 use Rattle.nb_envelope.specs.Formats.{IsBytes, IsFormat}
 use Rattle.nb_envelope.proofs.Again.{absent}
-use Rattle.nb_envelope.proofs.FormatLaws.{Found, some_is, bind_some, test_some, format_text, format_test, format_both, format_list}
+use Rattle.nb_envelope.proofs.FormatLaws.{Found, bind_some, test_some, format_text, format_test, format_both, format_list}
 
 -- ---- each name once, as a test
 

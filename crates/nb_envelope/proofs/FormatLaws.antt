@@ -1,6 +1,6 @@
 -- Each spelling and its reading, from the numbers up to the envelope.
 use Rattle.std.specs.Prelude.{◌≡◌, ◌≢◌, ◌≤◌, ◌<◌, ◌+◌, ◌^◌, ◌==◌, ℕ, ℤ, zero, suc, List, [], ◌∷◌, ◌++◌, length, take, drop, Bool, true, false, cond, nat_lt, Option, Some, None, Result, Ok, Err, IfOk, FitsSigned, refl}
-use Rattle.std.proofs.Common.{◌⊎◌, ◌∙◌, ap, sym, subst, arith, append_assoc, get_or, inl, inr}
+use Rattle.std.proofs.Common.{◌∙◌, ap, sym, subst, arith, append_assoc, inl, inr}
 use Rattle.std.specs.Int.{Width, w32, w64, byte_len, from_be_bytes, to_be_bytes, cast_signed, cast_unsigned}
 use Rattle.std.proofs.lemmas.Bool.{cases_lt, ltb-false, le-ltb}
 use Rattle.std.proofs.lemmas.List.{take_at, drop_at, take-append-drop, length-append, length-take, get_or-drop, get_or-take, get_or_past}

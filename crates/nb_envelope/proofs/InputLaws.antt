@@ -1,11 +1,11 @@
 -- An input cut at its first line feed.
-use Rattle.std.specs.Prelude.{◌≡◌, ◌≢◌, ◌<◌, ◌≤◌, ◌+◌, ℕ, suc, List, [], ◌∷◌, length, take, drop, position, Bool, true, false, not, cond, nat_lt, ◌==◌, Option, Some, None, Result, Ok, Err, ◌++◌, refl}
+use Rattle.std.specs.Prelude.{◌≡◌, ◌<◌, ◌≤◌, ◌+◌, ℕ, List, [], ◌∷◌, length, take, drop, position, Bool, true, false, not, cond, nat_lt, ◌==◌, Option, Some, None, Result, Ok, Err, ◌++◌, refl}
 use Rattle.std.proofs.Common.{◌∙◌, sym, ap, arith, ltb-true, ltb-false, append_assoc}
 use Rattle.std.proofs.lemmas.List.{append-nil}
 use Rattle.nb_base.specs.Messages.{Message}
 use Rattle.nb_envelope.specs.Inputs.{◌>>>◌, line_past, line_at, messages_from, messages_of}
 use Rattle.nb_envelope.specs.declared.input.InputFault.{InputFault}
-use Rattle.std.specs.List.{slice_split, position_or_len, before_first, after_first, onto_first, prefix_len, count_by}
+use Rattle.std.specs.List.{slice_split, position_or_len, after_first, onto_first}
 use Rattle.std.specs.Str.Lines.{lines, lines_of_parts, strip_carriage_return}
 use Rattle.std.proofs.lemmas.List.Splits.{slice_split_first, length-slice_split}
 

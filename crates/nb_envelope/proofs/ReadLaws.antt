@@ -1,6 +1,6 @@
 -- A text read by its length.
-use Rattle.std.specs.Prelude.{◌≡◌, ◌≤◌, ℕ, List, length, take, drop, Bool, true, false, cond, nat_lt, Option, Some, None, IsUtf8, refl}
-use Rattle.std.proofs.Common.{◌∙◌, ap, sym, arith, le-ltb}
+use Rattle.std.specs.Prelude.{◌≡◌, ◌≤◌, ℕ, List, length, take, drop, true, false, Some, None, IsUtf8, refl}
+use Rattle.std.proofs.Common.{le-ltb}
 use Rattle.std.specs.Str.{is_utf8}
 use Rattle.std.proofs.lemmas.Str.{is_utf8-from_IsUtf8, IsUtf8-from_is_utf8}
 use Rattle.nb_envelope.specs.Cells.{text_of}

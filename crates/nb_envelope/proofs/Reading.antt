@@ -1,5 +1,5 @@
 -- How the loop over an object's members makes the list of headers.
-use Rattle.std.specs.Prelude.{◌≡◌, ℕ, List, [], ◌∷◌, ◌++◌, Bool, true, false, cond, bytes_eq, Option, Some, None, Result, Ok, Err, String, string_bytes, string_cmp, refl}
+use Rattle.std.specs.Prelude.{◌≡◌, ℕ, List, [], ◌∷◌, ◌++◌, true, false, cond, bytes_eq, Some, None, Result, Ok, Err, String, string_bytes, string_cmp, refl}
 use Rattle.std.proofs.Common.{◌∙◌, sym, ap, arith, rules, append_assoc}
 use Rattle.std.specs.declared.alloc.Global.{Global}
 use Rattle.std.specs.List.{IsDistinct, AllByRecursion}

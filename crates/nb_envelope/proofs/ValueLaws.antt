@@ -1,10 +1,10 @@
 -- The spellings and readings of values and of dues.
 use Rattle.std.specs.Prelude.{◌≡◌, ◌≤◌, ◌<◌, ◌^◌, ◌==◌, ℕ, List, [], ◌∷◌, ◌++◌, Bool, true, false, cond, nat_le, Option, Some, None, refl}
-use Rattle.std.proofs.Common.{◌∙◌, ap, sym, subst, arith}
+use Rattle.std.proofs.Common.{◌∙◌, ap, subst, arith}
 use Rattle.std.proofs.lemmas.Bool.{eqb-true, leb-true, le-leb}
 use Rattle.nb_base.specs.declared.value.Value.{Value}
 use Rattle.nb_base.specs.declared.value.Value.TheVariants.{Int, Text, Bool as Truth}
-use Rattle.nb_envelope.specs.Spelling.{spelled_u64, spelled_int, spelled_flag, spelled_text, spelled_value, spelled_due, IsText, IsValue, IsDue}
+use Rattle.nb_envelope.specs.Spelling.{spelled_u64, spelled_flag, spelled_value, spelled_due, IsValue, IsDue}
 use Rattle.nb_envelope.specs.Cells.{◌>>=◌, u64_in, int_in, flag_in, text_in, value_of, value_in, moment_in, due_in}
 use Rattle.nb_envelope.specs.Formats.{IsBytes, IsFormat}
 use Rattle.nb_envelope.proofs.FormatLaws.{Found, IsBytes-rest, some_is, bind_some, format_u64, format_int, format_flag, format_text, format_test, format_as}

@@ -6,7 +6,7 @@ use Rattle.std.proofs.lemmas.Grind.{flat_map-append}
 use Rattle.std.proofs.lemmas.List.Concat.{flat_map-cons}
 use Rattle.std.proofs.lemmas.List.{append-nil, take_all}
 use Rattle.nb_base.proofs.ListLaws.{take_next}
-use Rattle.nb_envelope.specs.Spelling.{spelled_text, spelled_header, IsText, IsHeader}
+use Rattle.nb_envelope.specs.Spelling.{spelled_text, spelled_header}
 
 -- the items so far stand at the end, and each has a spelling
 pub record Wrote {A : Type 0} (Is : A → Type 0) (spelled : A → List ℕ) (before now : List ℕ) (xs : List A) : Type 0 where

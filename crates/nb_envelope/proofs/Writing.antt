@@ -1,16 +1,15 @@
 -- How the loop over the headers makes the members of an object, and how what is written is read again.
-use Rattle.std.specs.Prelude.{◌≡◌, ◌≤◌, ℕ, zero, suc, length, Bool, false, ◌+◌, List, [], ◌∷◌, ◌++◌, take, fold, Option, Some, None, slice_get, Result, Ok, Err, refl}
-use Rattle.std.proofs.Common.{◌∙◌, sym, ap, arith, add-one}
+use Rattle.std.specs.Prelude.{◌≡◌, ◌≤◌, ℕ, zero, suc, length, false, ◌+◌, List, [], ◌∷◌, ◌++◌, take, Some, slice_get, Ok, refl}
+use Rattle.std.proofs.Common.{◌∙◌, sym, ap, add-one}
 use Rattle.std.proofs.lemmas.List.Sums.{fold-append}
 use Rattle.std.specs.declared.cmp.Ordering.{Ordering}
 use Rattle.std.specs.declared.cmp.Ordering.TheVariants.{Less, Equal, Greater}
 use Rattle.std.specs.Ordering.{nat_cmp, match_ordering}
 use Rattle.std.specs.Cmp.Lexicographic.{slice_cmp}
-use Rattle.serde_json.specs.Data.{Data, string, Members, no_members, member, put}
+use Rattle.serde_json.specs.Data.{Data, string, put}
 use Rattle.std.proofs.lemmas.List.{take_all}
 use Rattle.serde_json.specs.Written.{compact_text, has_float, members_have_float}
 use Rattle.nb_base.specs.Messages.{Pairs, Message}
-use Rattle.nb_envelope.specs.declared.line.LineFault.{LineFault}
 use Rattle.nb_envelope.specs.Lines.{headers_in}
 use Rattle.nb_envelope.specs.Written.{put_pair, by_name, as_members, data_of, line_text}
 

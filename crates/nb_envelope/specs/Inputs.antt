@@ -1,5 +1,5 @@
 -- What an input of lines stands for: its messages in order, or the first bad line.
-use Rattle.std.specs.Prelude.{◌≡◌, ℕ, ◌+◌, List, [], ◌∷◌, ◌++◌, length, take, count_by, Bool, true, false, ◌==◌, nat_lt, if◌then◌else◌, Option, Some, None, Result, Ok, Err}
+use Rattle.std.specs.Prelude.{◌≡◌, ℕ, ◌+◌, List, [], ◌∷◌, ◌++◌, length, take, count_by, Bool, false, ◌==◌, nat_lt, if◌then◌else◌, Option, Some, None, Result, Ok, Err}
 use Rattle.std.specs.Str.Lines.{lines}
 use Rattle.nb_base.specs.Messages.{Message}
 use Rattle.nb_envelope.specs.Lines.{line_of}
@@ -8,9 +8,17 @@ use Rattle.nb_envelope.specs.declared.input.InputFault.{InputFault}
 use Rattle.nb_envelope.specs.declared.input.InputKind.{InputKind}
 use Rattle.nb_envelope.specs.declared.input.InputKind.TheVariants.{TooMuch, TooMany, Line, NoMemory}
 
+-- the most bytes that an input has
+abbrev pub most_bytes : ℕ
+most_bytes = 16777216
+
+-- the most lines that an input has
+abbrev pub most_lines : ℕ
+most_lines = 100000
+
 -- the line of the first byte past the limit
 abbrev pub line_past : List ℕ → Option ℕ
-line_past input = if nat_lt 16777216 (length input) then Some (count_by (λ b. b == 10) (take 16777216 input) + 1) else None
+line_past input = if nat_lt most_bytes (length input) then Some (count_by (λ b. b == 10) (take most_bytes input) + 1) else None
 
 abbrev pub is_at : Option ℕ → ℕ → Bool
 is_at None n = false
@@ -28,7 +36,7 @@ abbrev pub line_unless_empty : ℕ → List ℕ → Result (List Message) InputF
 line_unless_empty n l = if length l == 0 then Ok [] else of_line n (line_of l)
 
 abbrev pub line_at : Option ℕ → ℕ → List ℕ → Result (List Message) InputFault
-line_at past n l = if is_at past n then Err (bad n TooMuch) else (if nat_lt 100000 n then Err (bad n TooMany) else line_unless_empty n l)
+line_at past n l = if is_at past n then Err (bad n TooMuch) else (if nat_lt most_lines n then Err (bad n TooMany) else line_unless_empty n l)
 
 infixl 10 ◌>>>◌
 abbrev pub ◌>>>◌ : {A B : Type 0} → Result A InputFault → (A → Result B InputFault) → Result B InputFault

@@ -1,5 +1,5 @@
 -- What an envelope line stands for, over what `serde_json` reads.
-use Rattle.std.specs.Prelude.{◌≡◌, ℕ, List, [], ◌∷◌, length, Bool, true, false, nat_lt, if◌then◌else◌, Option, Some, None, Result, Ok, Err, codes}
+use Rattle.std.specs.Prelude.{◌≡◌, ℕ, List, [], ◌∷◌, length, nat_lt, if◌then◌else◌, Option, Some, None, Result, Ok, Err, codes}
 use Rattle.std.specs.Str.{is_utf8}
 use Rattle.serde_json.specs.Data.{Data, null, boolean, number, string, array, object, Members, no_members, member}
 use Rattle.serde_json.specs.Read.{read}
@@ -53,9 +53,13 @@ message_of None = Err NotJson
 message_of (Some (object ms)) = message_in ms
 message_of (Some _) = Err (NotEnvelope Root)
 
+-- the most bytes that a line has
+abbrev pub most_line_bytes : ℕ
+most_line_bytes = 262144
+
 -- the message that a line is, or the first reason for which it is none
 abbrev pub line_of : List ℕ → Result Message LineFault
-line_of line = if nat_lt 262144 (length line) then Err TooLong else message_of (json_of line)
+line_of line = if nat_lt most_line_bytes (length line) then Err TooLong else message_of (json_of line)
 
 -- What a call returned is what was meant, unless memory ran out.
 abbrev pub Fails : {Y : Type 0} → LineFault → Result Y LineFault → Type 0

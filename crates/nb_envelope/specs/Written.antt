@@ -1,5 +1,5 @@
 -- The line that is written for a message.
-use Rattle.std.specs.Prelude.{◌≡◌, ℕ, List, [], ◌∷◌, codes, fold}
+use Rattle.std.specs.Prelude.{ℕ, List, [], ◌∷◌, codes, fold}
 use Rattle.std.specs.Ordering.{nat_cmp, match_ordering}
 use Rattle.std.specs.Cmp.Lexicographic.{slice_cmp}
 use Rattle.serde_json.specs.Data.{Data, string, object, Members, no_members, member}

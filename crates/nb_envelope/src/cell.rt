@@ -38,9 +38,11 @@ pub fn from_cell(alloc: Global, bytes: &[u8]) -> Result<Envelope, FormatFault>
     // What is read is spelled so.
     ensures found { IfOk result (λ e. IsEnvelope e × (bytes.now ≡ spelled_envelope e)) }
     // What is spelled so is read, unless memory runs out.
-    ensures only { (m : Message) → IsEnvelope m → bytes.now ≡ spelled_envelope m → Gives (λ e. e) result (Some m) }
+    ensures only { (m : Message) → IsEnvelope m
+        → bytes.now ≡ spelled_envelope m → Gives (λ e. e) result (Some m) }
     // Damaged bytes are the spelling of no envelope.
-    ensures damaged { result ≡ Err Damaged → (m : Message) → IsEnvelope m → bytes.now ≢ spelled_envelope m }
+    ensures damaged { result ≡ Err Damaged
+        → (m : Message) → IsEnvelope m → bytes.now ≢ spelled_envelope m }
 {
     read_cell(alloc, bytes)
 }

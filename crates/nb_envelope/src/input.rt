@@ -4,7 +4,7 @@ ghost use Rattle.std.specs.Str.Lines.{lines, strip_carriage_return};
 ghost use Rattle.nb_envelope.specs.Inputs.{line_past, line_at, messages_of, Gives, GivesSome, one_or_none};
 
 use crate::line::{LineFault, read_line};
-use nb_base::{Envelope, Items, NoMemory};
+use nb_base::{Copied, Envelope, Envelopes, Items, NoMemory};
 use std::alloc::Global;
 
 /// The most bytes that an input has.
@@ -12,9 +12,6 @@ const MOST_BYTES: usize = 16777216;
 
 /// The most lines that an input has, the empty ones too.
 const MOST_LINES: u64 = 100000;
-
-/// A list of envelopes.
-pub type Envelopes = Items<Envelope>;
 
 /// Why a line of an input is bad.
 #[derive(Debug, Drop)]
@@ -33,6 +30,26 @@ pub enum InputKind {
 pub struct InputFault {
     pub line: u64,
     pub kind: InputKind,
+}
+
+impl Copied for InputKind {
+    fn copy(&self) -> Result<InputKind, NoMemory> {
+        match self {
+            InputKind::TooMuch => Ok(InputKind::TooMuch),
+            InputKind::TooMany => Ok(InputKind::TooMany),
+            InputKind::Line(fault) => Ok(InputKind::Line(fault.copy()?)),
+            InputKind::NoMemory => Ok(InputKind::NoMemory),
+        }
+    }
+}
+
+impl Copied for InputFault {
+    fn copy(&self) -> Result<InputFault, NoMemory> {
+        Ok(InputFault {
+            line: self.line,
+            kind: self.kind.copy()?,
+        })
+    }
 }
 
 impl From<NoMemory> for InputFault {
@@ -69,7 +86,9 @@ fn feed_at(rest: &[u8]) -> Option<usize>
 
 /// The first line, and what follows it.
 pub fn next_line(rest: &[u8]) -> Option<(&[u8], &[u8])>
-    ensures value { MatchOption result (rest.now ≡ []) (λ p. lines rest.now ≡ p.0.now ∷ lines p.1.now) }
+    ensures value { MatchOption result
+        (rest.now ≡ [])
+        (λ p. lines rest.now ≡ p.0.now ∷ lines p.1.now) }
     ensures shorter { IfSome result (λ p. length p.1.now < length rest.now) }
 {
     if rest.is_empty() {

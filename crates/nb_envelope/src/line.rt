@@ -5,7 +5,7 @@ ghost use Rattle.serde_json.specs.View.{view, members_view};
 ghost use Rattle.serde_json.specs.Find.{get, get_member};
 ghost use Rattle.nb_envelope.specs.Lines.{json_of, headers_of, body_of, headers_in, message_of, line_of, Gives, IsNotJsonUnless};
 
-use nb_base::{Envelope, Headers, NoMemory, Text};
+use nb_base::{Copied, Envelope, Headers, NoMemory, Text};
 use serde_json::{Map, Value};
 use std::alloc::Global;
 use thiserror::Error;
@@ -43,6 +43,29 @@ pub enum LineFault {
     NoMemory,
 }
 
+impl Copied for Place {
+    fn copy(&self) -> Result<Place, NoMemory> {
+        match self {
+            Place::Root => Ok(Place::Root),
+            Place::Headers => Ok(Place::Headers),
+            Place::Header(name) => Ok(Place::Header(name.copy()?)),
+            Place::Body => Ok(Place::Body),
+        }
+    }
+}
+
+impl Copied for LineFault {
+    fn copy(&self) -> Result<LineFault, NoMemory> {
+        match self {
+            LineFault::TooLong => Ok(LineFault::TooLong),
+            LineFault::NotJson => Ok(LineFault::NotJson),
+            LineFault::NotEnvelope(place) => Ok(LineFault::NotEnvelope(place.copy()?)),
+            LineFault::NoId => Ok(LineFault::NoId),
+            LineFault::NoMemory => Ok(LineFault::NoMemory),
+        }
+    }
+}
+
 impl From<NoMemory> for LineFault {
     ghost use Rattle.std.specs.Prelude.{◌≡◌};
     ghost use Rattle.nb_envelope.specs.declared.line.LineFault.TheVariants.{NoMemory};
@@ -56,7 +79,9 @@ impl From<NoMemory> for LineFault {
 
 /// The value that the bytes are.
 fn value_of(alloc: Global, line: &[u8]) -> Result<Value, LineFault>
-    ensures { MatchResult result (λ v. json_of line.now ≡ Some (view v)) (λ e. IsNotJsonUnless (json_of line.now) e) }
+    ensures { MatchResult result
+        (λ v. json_of line.now ≡ Some (view v))
+        (λ e. IsNotJsonUnless (json_of line.now) e) }
 {
     match Value::from_slice(alloc, line) {
         Ok(value) => Ok(value),
@@ -109,7 +134,7 @@ fn headers_at(alloc: Global, value: &Value) -> Result<Headers, LineFault>
 }
 
 /// The envelope of a line's value. Other members are ignored.
-fn message_at(alloc: Global, value: &Value) -> Result<Envelope, LineFault>
+fn envelope_of(alloc: Global, value: &Value) -> Result<Envelope, LineFault>
     ensures { Gives result (message_of (Some (view value.now))) }
 {
     if !value.is_object() {
@@ -131,5 +156,5 @@ pub fn read_line(alloc: Global, line: &[u8]) -> Result<Envelope, LineFault>
         return Err(LineFault::TooLong);
     }
     let value = value_of(alloc, line)?;
-    message_at(alloc, &value)
+    envelope_of(alloc, &value)
 }

@@ -103,7 +103,8 @@ pub fn put_due(out: &mut Vec<u8>, due: Option<Moment>) -> Result<(), NoMemory>
 
 /// The headers, one after the other.
 fn put_headers(out: &mut Vec<u8>, headers: &Headers) -> Result<(), NoMemory>
-    ensures bytes { OnOk result (out.new.items ≡ out.old.items ++ flat_map spelled_header headers.now) }
+    ensures bytes { OnOk result
+        (out.new.items ≡ out.old.items ++ flat_map spelled_header headers.now) }
     ensures fits { OnOk result (AllByRecursion IsHeader headers.now) }
 {
     for i in 0..headers.len() {

@@ -1,6 +1,6 @@
 //! An envelope, written as a line of JSON.
 ghost use Rattle.std.specs.Prelude.{◌≡◌, ◌≤◌, length, Ok, IfOk};
-ghost use Rattle.nb_envelope.specs.Lines.{line_of};
+ghost use Rattle.nb_envelope.specs.Lines.{line_of, most_line_bytes};
 ghost use Rattle.serde_json.specs.Data.{object, string};
 ghost use Rattle.serde_json.specs.View.{view};
 ghost use Rattle.nb_envelope.specs.Written.{as_members, by_name, data_of, line_text};
@@ -49,8 +49,10 @@ fn value_of(alloc: Global, envelope: &Envelope) -> Result<Value, NoMemory>
 pub fn write_line(alloc: Global, envelope: &Envelope) -> Result<Bytes, NoMemory>
     ensures text { IfOk result (λ t. t ≡ line_text envelope.now) }
     // It is read again, its headers in byte order, where it isn't too long.
-    ensures again { IfOk result (λ t. length t ≤ 262144
-        → line_of t ≡ Ok (record { headers = by_name envelope.now.headers; body = envelope.now.body })) }
+    ensures again { IfOk result (λ t. length t ≤ most_line_bytes → line_of t ≡ Ok (record {
+      headers = by_name envelope.now.headers;
+      body = envelope.now.body;
+    })) }
 {
     let _sound = envelope.body();
     let value = value_of(alloc, envelope)?;

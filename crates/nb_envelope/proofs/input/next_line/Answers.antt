@@ -1,4 +1,4 @@
-use Rattle.std.proofs.Common.{◌≡◌, ◌<◌, ◌∙◌, sym, ap, arith, length, refl, rules, true, false}
+use Rattle.std.proofs.Common.{◌<◌, sym, arith, length}
 use Rattle.std.proofs.lemmas.List.{take_rest, drop_all}
 use Rattle.nb_envelope.proofs.InputLaws.{lines_first, lines_last}
 use Rattle.nb_envelope.proofs.input.next_line.Goals as goal

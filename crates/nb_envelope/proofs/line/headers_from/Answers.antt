@@ -1,4 +1,4 @@
-use Rattle.std.proofs.Common.{◌≡◌, ◌∙◌, rules, ◌∷◌, List, refl}
+use Rattle.std.proofs.Common.{refl}
 use Rattle.std.specs.Prelude.{string_cmp}
 use Rattle.std.proofs.lemmas.Map.Keys.{IsDistinct-from_sorted}
 use Rattle.nb_envelope.proofs.Reading.{Keeps-start, Keeps-null, Keeps-text}

@@ -1,8 +1,8 @@
-use Rattle.std.proofs.Common.{◌≡◌, rules, true, false, refl}
+use Rattle.std.proofs.Common.{◌≡◌, true, false, refl}
 use Rattle.std.proofs.lemmas.Str.{is_utf8-from_IsUtf8, IsUtf8-from_is_utf8}
 use Rattle.std.specs.Str.{is_utf8}
 use Rattle.serde_json.specs.Read.{read}
-use Rattle.std.specs.Prelude.{None, cond, Option}
+use Rattle.std.specs.Prelude.{None, cond}
 use Rattle.nb_envelope.proofs.line.value_of.Goals as goal
 
 pub returns-in-Ok : goal.returns-in-Ok

@@ -1,4 +1,4 @@
-use Rattle.std.proofs.Common.{◌≡◌, ◌∙◌, ap, sym, refl, arith}
+use Rattle.std.proofs.Common.{◌≡◌, ◌∙◌, sym, refl, arith}
 use Rattle.std.specs.Prelude.{None, Some}
 use Rattle.nb_base.specs.Messages.{header}
 use Rattle.nb_envelope.specs.Cells.{header_in}

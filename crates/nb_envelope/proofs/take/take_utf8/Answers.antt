@@ -1,4 +1,4 @@
-use Rattle.std.proofs.Common.{◌≤◌, length, arith, sym}
+use Rattle.std.proofs.Common.{◌≤◌, length, arith}
 use Rattle.nb_envelope.proofs.ReadLaws.{text_of-utf8, text_of-other}
 use Rattle.nb_envelope.proofs.take.take_utf8.Goals as goal
 

@@ -1,4 +1,4 @@
-use Rattle.std.proofs.Common.{◌≡◌, ◌≤◌, ◌∙◌, length, arith, refl}
+use Rattle.std.proofs.Common.{◌≤◌, ◌∙◌, length, arith, refl}
 use Rattle.serde_json.proofs.Views.{view-Object, members_view-insert_entry}
 use Rattle.nb_envelope.proofs.Writing.{by_name-all, put-next}
 use Rattle.nb_envelope.proofs.write.headers_value.Goals as goal
