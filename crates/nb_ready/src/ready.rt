@@ -119,7 +119,8 @@ impl Ready {
     pub fn count_fail(&mut self, number: u64) -> u32
         requires { HasA (λ s. nat_lt s.count 4294967295) self.old number }
         ensures value { (s : Seat) → Has self.old number s → result ≡ s.count + 1 }
-        ensures state { self.new ≡ changed_at self.old number (λ s. record s { count = s.count + 1 }) }
+        ensures state { self.new ≡
+            changed_at self.old number (λ s. record s { count = s.count + 1 }) }
     {
         let seat = self.seat(number);
         let count = seat.count + 1;
