@@ -31,6 +31,7 @@ pub mod Sending
 pub mod Serials
 pub mod Settles
 pub mod Sounding
+pub mod Spending
 pub mod Stales
 pub mod Stating
 pub mod Trying

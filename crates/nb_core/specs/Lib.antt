@@ -22,6 +22,7 @@ pub mod Pending
 pub mod Placed
 pub mod Ready
 pub mod Refusing
+pub mod Spent
 pub mod Replay
 pub mod RunFacts
 pub mod Samples

@@ -1,5 +1,5 @@
 -- A drain: what its rounds keep, and how it ends.
-use Rattle.std.proofs.Common.{◌≡◌, ℕ, ◌-◌, ◌<◌, ◌≤◌, List, [], ◌++◌, Bool, true, false, refl, sym, ap, ◌∙◌, subst, append_assoc, append-nil, arith}
+use Rattle.std.proofs.Common.{◌≡◌, inl, inr, ℕ, ◌-◌, ◌<◌, ◌≤◌, List, [], ◌++◌, Bool, true, false, refl, sym, ap, ◌∙◌, subst, append_assoc, append-nil, arith}
 use Rattle.std.specs.Prelude.{Ok, Err, Some, None, Result}
 use Rattle.nb_core.specs.Calls.{View, Called, state_of}
 use Rattle.nb_core.specs.Paced.{Pace, Mode, ended, released, releasing, working, IsOwnEmpty}
@@ -11,11 +11,12 @@ use Rattle.nb_core.specs.declared.event.Event.{Event}
 use Rattle.nb_core.specs.declared.state.State.{State}
 use Rattle.nb_core.specs.Drained.{Drained}
 use Rattle.nb_core.specs.Legal.{halted}
-use Rattle.nb_pump.specs.Drains.{Standing, Leads, HasTake, StopsAtLimit, ReleasesAre, WindIs, TurnsAre, DrainIs}
+use Rattle.nb_core.specs.State.{AllIdle}
+use Rattle.nb_pump.specs.Drains.{Standing, Leads, HasTake, StopsAtLimit, IsSomeSpent, ReleasesAre, WindIs, TurnsAre, DrainEnd, DrainIs}
 use Rattle.nb_pump.specs.Made.{Moved, Made}
-use Rattle.nb_pump.proofs.Following.{refused, seen_after}
+use Rattle.nb_pump.proofs.Following.{Calm, stopped_asking, stopped_behind, stopped_there, stops_so, seen_after}
 use Rattle.nb_pump.proofs.Limits.{limit_more, limit_same, limit_turns, left_still}
-use Rattle.nb_pump.proofs.Releasing.{events_here}
+use Rattle.nb_pump.proofs.Releasing.{events_here, same_here}
 use Rattle.nb_pump.proofs.Winding.{asks_none}
 use Rattle.nb_pump.proofs.Views.{moved_as, made_append, made_kept, moved_none, stays}
 
@@ -29,6 +30,7 @@ pub record Limited (until : ℕ) (mode : Mode) (v u : View) : Type 0 where
   pub limit : StopsAtLimit v own
   pub standing : Standing u
   pub spent : u.fixed.turns ≤ takes u.events
+  pub on : halted u.events ≡ false
 
 still : (until : ℕ) (mode : Mode) (v u w : View) (l : Limited until mode v u) → Moved u [] w → Made v l.own w
 still until mode v u w l m = subst (λ (es : List Event). Made v es w) (append-nil l.own) (made_append v u w l.own [] l.made m)
@@ -57,16 +59,19 @@ asked_last until mode (Ok false) v u w l c =
         ap (λ (es : List Event). halted es) (seen_after u w m) ∙ c.gives.1,
         subst (λ (y : Fixed × State). Drained (constants y.0) y.1 until → ⊥) (λ i. (sym m.fixed i, sym (stays m) i)) c.gives.2,
         subst (λ (y : Fixed × List Event). y.0.turns ≤ takes y.1) (λ i. (sym m.fixed i, sym (events_here m l.standing.owns) i)) l.spent,
+        subst AllIdle (sym (same_here m l.standing.owns)) l.standing.idle,
       );
     }
 asked_last until mode (Err f) v u w l c =
-    let m : Moved u [] w = moved_as c [] (asks_none f until u.fixed (u.events ++ c.others) c.own c.gives) in
+    let silent = asks_none f until u.fixed (u.events ++ c.others) c.own c.gives in
+    let m : Moved u [] w = moved_as c [] silent in
     record {
       own = l.own;
       made = still until mode v u w l m;
       paced = l.paced;
       limit = l.limit;
-      end = (refused (call.IsDrained until) (answer.IsDrained (Err f)) f u w c c.gives).1;
+      end = stopped_there (IsSomeSpent w) f v u w l.own l.standing.owns l.made (inr l.on)
+          (stopped_asking (IsSomeSpent w) (call.IsDrained until) (answer.IsDrained (Err f)) f u w c l.standing.owns (λ m h. absurd h) c.gives silent);
     }
 
 -- ---- rounds
@@ -82,9 +87,10 @@ pub record Draining (until now : ℕ) (v u : View) : Type 0 where
   pub now_is : (state_of u).moment ≡ now
   pub empty : IsOwnEmpty (constants u.fixed) (state_of u)
   pub same : u.fixed ≡ v.fixed
+  pub calm : Calm own u
 
 pub draining_start : (until now : ℕ) (v : View) → Standing v → (state_of v).moment ≡ now → IsOwnEmpty (constants v.fixed) (state_of v) → Draining until now v v
-draining_start until now v st is empty = record { own = []; made = moved_none v st.legal; leads = λ rest p. p; limit = λ left. tt; left = λ left. left; standing = st; now_is = is; empty = empty; same = refl }
+draining_start until now v st is empty = record { own = []; made = moved_none v st.legal; leads = λ rest p. p; limit = λ left. tt; left = λ left. left; standing = st; now_is = is; empty = empty; same = refl; calm = inl refl }
 
 -- time went on
 pub record Wound (until now : ℕ) (v u : View) : Type 0 where
@@ -97,6 +103,7 @@ pub record Wound (until now : ℕ) (v u : View) : Type 0 where
   pub now_is : (state_of u).moment ≡ now
   pub full : IsOwnEmpty (constants u.fixed) (state_of u) → ⊥
   pub same : u.fixed ≡ v.fixed
+  pub on : halted u.events ≡ false
 
 both : (until : ℕ) (v u w : View) (xs ys : List Event) → u.fixed ≡ v.fixed → Leads (constants v.fixed) until working (state_of v) xs working (state_of u) → Leads (constants u.fixed) until working (state_of u) ys working (state_of w)
     → Leads (constants v.fixed) until working (state_of v) (xs ++ ys) working (state_of w)
@@ -115,6 +122,7 @@ wound until now later v u w r x = record {
   now_is = x.end.2;
   full = x.end.3;
   same = (made_kept u w x.own x.made).1 ∙ r.same;
+  on = x.end.1.on;
 }
 
 pub draining_done : (until now : ℕ) (v u w : View) → Draining until now v u → WindIs until (Ok None) u w → DrainIs until working (Ok true) v w
@@ -132,7 +140,7 @@ draining_unwound until now f v u w r x = record {
   made = made_append v u w r.own x.own r.made x.made;
   limit = limit_more v u r.own x.own r.standing.owns r.made r.left r.limit x.limit;
   paced = r.leads x.own (subst (λ (y : Fixed). Pace (constants y) until working (state_of u) x.own) r.same x.end.0);
-  end = x.end.1;
+  end = stopped_behind (IsSomeSpent w) f v u w r.own x.own r.standing.owns r.made r.calm (stops_so ⊥ (IsSomeSpent w) f u w x.own (λ h. absurd h) x.end.1);
 }
 
 pub draining_more : (until now : ℕ) (v u w : View) → Wound until now v u → TurnsAre (Ok true) u w → Draining until now v w
@@ -146,6 +154,7 @@ draining_more until now v u w r x = record {
   now_is = x.end.3 ∙ r.now_is;
   empty = x.end.5;
   same = (made_kept u w x.own x.made).1 ∙ r.same;
+  calm = inr x.end.2;
 }
 
 -- each round makes a Take
@@ -165,6 +174,7 @@ draining_limit until now v u w r x = record {
   paced = r.leads x.own (subst (λ (y : Fixed). Pace (constants y) until working (state_of u) x.own) r.same (x.end.0 until));
   standing = x.end.1;
   spent = x.end.3;
+  on = x.end.2;
 }
 
 pub draining_broken : (until now : ℕ) (f : DeskFault) (v u w : View) → Wound until now v u → TurnsAre (Err f) u w → DrainIs until working (Err f) v w
@@ -173,7 +183,7 @@ draining_broken until now f v u w r x = record {
   made = made_append v u w r.own x.own r.made x.made;
   limit = limit_more v u r.own x.own r.standing.owns r.made r.left r.limit (limit_turns u x.own x.of_turns);
   paced = r.leads x.own (subst (λ (y : Fixed). Pace (constants y) until working (state_of u) x.own) r.same (x.end.0 until));
-  end = x.end.1;
+  end = stopped_behind (IsSomeSpent w) f v u w r.own x.own r.standing.owns r.made (inr r.on) x.end.1;
 }
 
 -- ---- the whole drain
@@ -182,7 +192,7 @@ pub fixed_after : (r : Result (Unit {0}) DeskFault) (v u : View) → ReleasesAre
 fixed_after r v u x = (made_kept v u x.own x.made).1
 
 pub drain_unreleased : (until : ℕ) (f : DeskFault) (v u : View) → ReleasesAre (Err f) v u → DrainIs until releasing (Err f) v u
-drain_unreleased until f v u x = record { own = x.own; made = x.made; paced = x.end.0 until; limit = x.limit; end = x.end.1 }
+drain_unreleased until f v u x = record { own = x.own; made = x.made; paced = x.end.0 until; limit = x.limit; end = stops_so ⊥ (IsSomeSpent u) f v u x.own (λ h. absurd h) x.end.1 }
 
 -- what is in pace of workers behind the releases, is in pace
 behind : (until : ℕ) (v u : View) (x : ReleasesAre (Ok tt) v u) (es : List Event) → Pace (constants u.fixed) until working (state_of u) es → Pace (constants v.fixed) until releasing (state_of v) (x.own ++ es)
@@ -194,7 +204,7 @@ drain_broken until f v u w x y = record {
   made = made_append v u w x.own y.own x.made y.made;
   limit = limit_same v u x.own y.own x.end.1.standing.owns x.made x.end.1.takes_are x.limit (limit_turns u y.own y.of_turns);
   paced = behind until v u x y.own (y.end.0 until);
-  end = y.end.1;
+  end = stopped_behind (IsSomeSpent w) f v u w x.own y.own x.end.1.standing.owns x.made (inr x.end.1.on) y.end.1;
 }
 
 pub drain_limit : (until : ℕ) (v u w : View) → ReleasesAre (Ok tt) v u → TurnsAre (Ok false) u w → Limited until releasing v w
@@ -205,7 +215,14 @@ drain_limit until v u w x y = record {
   paced = behind until v u x y.own (y.end.0 until);
   standing = y.end.1;
   spent = y.end.3;
+  on = y.end.2;
 }
+
+-- how a drain ends, with more events before it
+end_behind : (until : ℕ) (r : Result Bool DeskFault) (v u w : View) (xs ys : List Event) → Standing u → Made v xs u → halted u.events ≡ false → DrainEnd until r ys u w → DrainEnd until r (xs ++ ys) v w
+end_behind until (Ok true) v u w xs ys st m on e = e
+end_behind until (Ok false) v u w xs ys st m on e = e
+end_behind until (Err f) v u w xs ys st m on e = stopped_behind (IsSomeSpent w) f v u w xs ys st.owns m (inr on) e
 
 pub drain_rounds : (until : ℕ) (r : Result Bool DeskFault) (v u w z : View) → ReleasesAre (Ok tt) v u → TurnsAre (Ok true) u w → DrainIs until working r w z → DrainIs until releasing r v z
 drain_rounds until r v u w z x y d =
@@ -216,7 +233,7 @@ drain_rounds until r v u w z x y d =
       limit = limit_same v u x.own (y.own ++ d.own) x.end.1.standing.owns x.made x.end.1.takes_are x.limit
           (limit_more u w y.own d.own y.end.1.owns y.made (λ left. y.end.4) (limit_turns u y.own y.of_turns) d.limit);
       paced = behind until v u x (y.own ++ d.own) (y.end.0 until d.own (subst (λ (f : Fixed). Pace (constants f) until working (state_of w) d.own) fixed d.paced));
-      end = d.end;
+      end = end_behind until r v u z x.own (y.own ++ d.own) x.end.1.standing x.made x.end.1.on (end_behind until r u w z y.own d.own y.end.1 y.made y.end.2 d.end);
     }
 
 pub turns_fixed : (r : Result Bool DeskFault) (u w : View) → TurnsAre r u w → w.fixed ≡ u.fixed

@@ -1,5 +1,5 @@
 -- Plans at a desk at rest, one event more at a time.
-use Rattle.std.proofs.Common.{◌≡◌, ◌≢◌, ℕ, ◌+◌, ◌≤◌, List, [], ◌∷◌, ◌++◌, false, Some, refl, sym, ap, ◌∙◌, subst, append_assoc, append-nil, length, take, drop, arith}
+use Rattle.std.proofs.Common.{◌≡◌, ◌≢◌, inr, ℕ, ◌+◌, ◌≤◌, List, [], ◌∷◌, ◌++◌, false, Some, refl, sym, ap, ◌∙◌, subst, append_assoc, append-nil, length, take, drop, arith}
 use Rattle.std.specs.Prelude.{Ok, Err, slice_get}
 use Rattle.std.specs.FinMap as finmap
 use Rattle.std.proofs.lemmas.List.{take-append-drop, take_all}
@@ -9,7 +9,7 @@ use Rattle.nb_base.specs.Messages.{Message}
 use Rattle.nb_base.specs.declared.tables.Queued.{Queued}
 use Rattle.nb_core.proofs.Held.{BelowAt}
 use Rattle.nb_core.proofs.Pasts.{halted_push, taken_push}
-use Rattle.nb_core.specs.Calls.{View, Called, Ready, Refuses, OwnsAll, CanReturn, CanPurge, state_of}
+use Rattle.nb_core.specs.Calls.{View, Called, Ready, Refuses, IsSpent, OwnsAll, CanReturn, CanPurge, state_of}
 use Rattle.nb_core.specs.Legal.{halted, is_halt}
 use Rattle.nb_core.specs.Past.{Fixed, constants, takes}
 use Rattle.nb_core.specs.State.{Constants, AllIdle, entry, recorded}
@@ -26,8 +26,8 @@ use Rattle.nb_core.specs.declared.state.State.{State}
 use Rattle.nb_pump.specs.Drains.{Standing}
 use Rattle.nb_pump.specs.Leases.{stop_of}
 use Rattle.nb_pump.specs.Made.{Moved, Made}
-use Rattle.nb_pump.specs.Plans.{Goes, StandOnce, CanReturnAll, CanPurgeAll, loads_of, returns_of, purges_of}
-use Rattle.nb_pump.proofs.Following.{refused}
+use Rattle.nb_pump.specs.Plans.{Goes, NeedsEntry, StandOnce, CanReturnAll, CanPurgeAll, loads_of, returns_of, purges_of}
+use Rattle.nb_pump.proofs.Following.{stopped, stopped_behind}
 use Rattle.nb_pump.proofs.Releasing.{standing_on, step_here}
 use Rattle.nb_pump.proofs.Views.{moved_as, made_append, made_one, made_kept, moved_none, moved_alone, holding_of}
 
@@ -75,10 +75,20 @@ some_left : (e : Event) (es : List Event) → e ∷ es ≢ []
 some_left e es is = cc
 
 pub going_refused : (plan : List Event) (e : Event) (rest whole : List Event) (x : Call) (f : DeskFault) (v u w : View) → whole ≡ plan ++ (e ∷ rest) → Goes plan (Ok tt) v u
-    → (c : Called x (answer.Plain (Err f)) u w) → Refuses u.fixed (u.events ++ c.others) x f c.own → Goes whole (Err f) v w
-going_refused plan e rest whole x f v u w split g c r =
-    let q = refused x (answer.Plain (Err f)) f u w c r in
-    record { done = plan; left = e ∷ rest; split = split; made = made_append v u w plan (stop_of f) (made_all plan v u g) q.0; some = some_left e rest; end = q.1 }
+    → (IsSpent (constants w.fixed) (state_of w) x → NeedsEntry (e ∷ rest) (state_of w)) → (c : Called x (answer.Plain (Err f)) u w) → Refuses u.fixed (u.events ++ c.others) x f c.own → Goes whole (Err f) v w
+going_refused plan e rest whole x f v u w split g needs c r =
+    let S : Type 0 = NeedsEntry (e ∷ rest) (state_of w) in
+    let st = g.end.1 in
+    let q = stopped S x (answer.Plain (Err f)) f u w c st.owns (λ m h. needs h) r in
+    let before = made_all plan v u g in
+    record {
+      done = plan;
+      left = e ∷ rest;
+      split = split;
+      made = made_append v u w plan (stop_of f) before q.0;
+      some = some_left e rest;
+      end = stopped_behind S f v u w plan (stop_of f) st.owns before (inr g.end.2) q.1;
+    }
 
 -- want of memory before a call
 pub going_unasked : (plan : List Event) (e : Event) (rest whole : List Event) (v u : View) → whole ≡ plan ++ (e ∷ rest) → Goes plan (Ok tt) v u → Goes whole (Err NoMemory) v u
@@ -133,7 +143,7 @@ loads_done ms i v u le g = subst (λ (xs : List Message). Goes (loads_of xs) (Ok
 
 pub loads_refused : (ms : List Message) (i : ℕ) (m : Message) (f : DeskFault) (v u w : View) → slice_get ms i ≡ Some m → Goes (loads_of (take i ms)) (Ok tt) v u
     → Called (call.Load m) (answer.Plain (Err f)) u w → Goes (loads_of ms) (Err f) v w
-loads_refused ms i m f v u w at g c = going_refused (loads_of (take i ms)) (Load m) (loads_of (drop (i + 1) ms)) (loads_of ms) (call.Load m) f v u w (loads_half ms i m at) g c c.gives
+loads_refused ms i m f v u w at g c = going_refused (loads_of (take i ms)) (Load m) (loads_of (drop (i + 1) ms)) (loads_of ms) (call.Load m) f v u w (loads_half ms i m at) g (λ h. (tt, h)) c c.gives
 
 -- no memory for the copy of a message
 pub loads_unasked : (ms : List Message) (i : ℕ) (m : Message) (v u : View) → slice_get ms i ≡ Some m → Goes (loads_of (take i ms)) (Ok tt) v u → Goes (loads_of ms) (Err NoMemory) v u
@@ -262,14 +272,14 @@ returns_done ns i v u le g = subst (λ (xs : List ℕ). Goes (returns_of xs) (Ok
 pub returns_refused : (ns : List ℕ) (i n : ℕ) (f : DeskFault) (v u w : View) → slice_get ns i ≡ Some n → Goes (returns_of (take i ns)) (Ok tt) v u
     → Called (call.PutBack n) (answer.Plain (Err f)) u w → Goes (returns_of ns) (Err f) v w
 returns_refused ns i n f v u w at g c =
-    going_refused (returns_of (take i ns)) (PutBack n) (DropBack n ∷ returns_of (drop (i + 1) ns)) (returns_of ns) (call.PutBack n) f v u w (returns_whole ns i n at) g c c.gives
+    going_refused (returns_of (take i ns)) (PutBack n) (DropBack n ∷ returns_of (drop (i + 1) ns)) (returns_of ns) (call.PutBack n) f v u w (returns_whole ns i n at) g (λ h. (tt, h)) c c.gives
 
 -- the entry was put back, and not removed
 pub returns_kept : (ns : List ℕ) (i n : ℕ) (f : DeskFault) (v u x w : View) → slice_get ns i ≡ Some n → Goes (returns_of (take i ns)) (Ok tt) v u
     → Called (call.PutBack n) (answer.Plain (Ok tt)) u x → Called (call.DropBack n) (answer.Plain (Err f)) x w → Goes (returns_of ns) (Err f) v w
 returns_kept ns i n f v u x w at g c d =
     going_refused (returns_of (take i ns) ++ PutBack n ∷ []) (DropBack n) (returns_of (drop (i + 1) ns)) (returns_of ns) (call.DropBack n) f v x w
-    (returns_half ns i n at) (returns_put ns i n v u x g c) d d.gives
+    (returns_half ns i n at) (returns_put ns i n v u x g c) (λ h. absurd h) d d.gives
 
 -- ---- purges
 
@@ -338,4 +348,4 @@ purges_done ids i v u le g = subst (λ (xs : List (List ℕ)). Goes (purges_of x
 
 pub purges_refused : (ids : List (List ℕ)) (i : ℕ) (id : List ℕ) (f : DeskFault) (v u w : View) → slice_get ids i ≡ Some id → Goes (purges_of (take i ids)) (Ok tt) v u
     → Called (call.Purge id) (answer.Plain (Err f)) u w → Goes (purges_of ids) (Err f) v w
-purges_refused ids i id f v u w at g c = going_refused (purges_of (take i ids)) (Purge id) (purges_of (drop (i + 1) ids)) (purges_of ids) (call.Purge id) f v u w (purges_half ids i id at) g c c.gives
+purges_refused ids i id f v u w at g c = going_refused (purges_of (take i ids)) (Purge id) (purges_of (drop (i + 1) ids)) (purges_of ids) (call.Purge id) f v u w (purges_half ids i id at) g (λ h. absurd h) c c.gives

@@ -34,9 +34,9 @@ use Rattle.nb_core.specs.declared.state.State.{State}
 use Rattle.nb_pump.specs.Drains.{Standing, Leads, waits, waiting_below, waiting, StopsAtLimit, NoneBy, Rests, DueIs, ReleasesAre}
 use Rattle.nb_pump.specs.Leases.{stop_of}
 use Rattle.nb_pump.specs.Made.{Moved, Made}
-use Rattle.nb_pump.proofs.Following.{refused, seen_after}
+use Rattle.nb_pump.proofs.Following.{Calm, stopped, stopped_asking, stopped_behind, stopped_there, seen_after}
 use Rattle.nb_pump.proofs.Limits.{limit_same, limit_stop}
-use Rattle.nb_pump.proofs.Views.{moved_as, owns_all_same, made_append, made_one, made_kept, moved_none, stepped, stays, before, holding_of}
+use Rattle.nb_pump.proofs.Views.{off_after, moved_as, owns_all_same, made_append, made_one, made_kept, moved_none, stepped, stays, before, holding_of}
 
 -- ---- where every worker is the caller's
 
@@ -113,8 +113,10 @@ asks_none Spent fixed es own r = r.0
 asks_none Halted fixed es own r = r.0
 asks_none NoMemory fixed es own r = r.0
 
-pub due_refused : (moment : ℕ) (f : DeskFault) (v w : View) → Called call.NextDue (answer.Due (Err f)) v w → DueIs moment (Err f) v w
-due_refused moment f v w c = (moved_as c [] (asks_none f v.fixed (v.events ++ c.others) c.own c.gives), (refused call.NextDue (answer.Due (Err f)) f v w c c.gives).1)
+pub due_refused : (moment : ℕ) (f : DeskFault) (v w : View) → OwnsAll v → Called call.NextDue (answer.Due (Err f)) v w → DueIs moment (Err f) v w
+due_refused moment f v w all c =
+    let silent = asks_none f v.fixed (v.events ++ c.others) c.own c.gives in
+    (moved_as c [] silent, stopped_asking ⊥ call.NextDue (answer.Due (Err f)) f v w c all (λ m h. h) c.gives silent)
 
 -- ---- one entry less waits
 
@@ -179,6 +181,7 @@ pub record Releasing (moment : ℕ) (v u : View) : Type 0 where
   pub same : (state_of u).moment ≡ (state_of v).moment
   pub now : (state_of u).moment ≡ moment
   pub fewer : waiting (state_of u) ≤ waiting (state_of v)
+  pub calm : Calm own u
   pub went : (waiting (state_of u) < waiting (state_of v)) ⊎ (state_of u ≡ state_of v)
 
 pub releasing_start : (moment : ℕ) (v : View) → Standing v → (state_of v).moment ≡ moment → Releasing moment v v
@@ -192,6 +195,7 @@ releasing_start moment v st now = record {
   same = refl;
   now = now;
   fewer = omega arith;
+  calm = inl refl;
   went = inr refl;
 }
 
@@ -211,6 +215,7 @@ releasing_asked moment v u x r m rests =
       same = ap (λ (s : State). s.moment) is ∙ r.same;
       now = ap (λ (s : State). s.moment) is ∙ r.now;
       fewer = omega arith;
+      calm = inr rests.on;
       went = ⊎_elim (λ (lt : waiting (state_of u) < waiting (state_of v)). inl (omega arith)) (λ (e : state_of u ≡ state_of v). inr (is ∙ e)) r.went;
     }
 
@@ -246,6 +251,7 @@ releasing_more moment y v u x r next le c =
       same = k.moment ∙ r.same;
       now = k.moment ∙ r.now;
       fewer = omega arith;
+      calm = inr (off_after m refl);
       went = inl (omega arith);
     }
   where
@@ -290,26 +296,26 @@ releasing_unasked moment f v u x r d = record {
   own = r.own;
   made = subst (λ (es : List Event). Made v es x) (append-nil r.own) (made_append v u x r.own [] r.made d.0);
   limit = r.limit;
-  end = ((λ until. subst (λ (es : List Event). Pace (constants v.fixed) until releasing (state_of v) es) (append-nil r.own) (r.leads until [] ended)), d.1);
+  end = ((λ until. subst (λ (es : List Event). Pace (constants v.fixed) until releasing (state_of v) es) (append-nil r.own) (r.leads until [] ended)), stopped_there ⊥ f v u x r.own r.standing.owns r.made r.calm d.1);
 }
 
 -- a Release that was refused
 pub releasing_refused : (moment : ℕ) (n : ℕ) (f : DeskFault) (v u x : View) → Releasing moment v u → Called (call.Release n) (answer.Plain (Err f)) u x → ReleasesAre (Err f) v x
 releasing_refused moment n f v u x r c =
-    let k = refused (call.Release n) (answer.Plain (Err f)) f u x c c.gives in
+    let k = stopped ⊥ (call.Release n) (answer.Plain (Err f)) f u x c r.standing.owns (λ m h. h) c.gives in
     record {
       own = r.own ++ stop_of f;
       made = made_append v u x r.own (stop_of f) r.made k.0;
       limit = limit_same v u r.own (stop_of f) r.standing.owns r.made r.takes_are r.limit (limit_stop u f);
-      end = ((λ until. r.leads until (stop_of f) (stopped f until)), k.1);
+      end = ((λ until. r.leads until (stop_of f) (halts f until)), stopped_behind ⊥ f v u x r.own (stop_of f) r.standing.owns r.made r.calm k.1);
     }
   where
-    stopped : (f : DeskFault) (until : ℕ) → Pace (constants v.fixed) until releasing (state_of u) (stop_of f)
-    stopped StoreFailed until = cut_off
-    stopped PostFailed until = cut_off
-    stopped Spent until = ended
-    stopped Halted until = ended
-    stopped NoMemory until = ended
+    halts : (f : DeskFault) (until : ℕ) → Pace (constants v.fixed) until releasing (state_of u) (stop_of f)
+    halts StoreFailed until = cut_off
+    halts PostFailed until = cut_off
+    halts Spent until = ended
+    halts Halted until = ended
+    halts NoMemory until = ended
 
 -- the entries that wait are as many after a question
 pub asked_waits : (u x : View) → Standing u → Moved u [] x → waiting (state_of x) ≡ waiting (state_of u)

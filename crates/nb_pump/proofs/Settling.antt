@@ -10,6 +10,7 @@ use Rattle.nb_recover.specs.declared.fail.Fail.{Fail}
 use Rattle.nb_recover.specs.declared.moves.Move.{Move}
 use Rattle.nb_recover.specs.declared.moves.Move.TheVariants as move
 use Rattle.nb_core.proofs.Held.{phase_same}
+use Rattle.nb_core.proofs.Spending.{spent_settle}
 use Rattle.nb_core.specs.Calls.{View, Called, Owns, FailsBy, HasLooked, Settles, MovesBy, IsSending, state_of}
 use Rattle.nb_core.specs.Past.{constants}
 use Rattle.nb_core.specs.Settling.{by_fault, by_conflict}
@@ -94,4 +95,5 @@ pub settled_then : (w : ℕ) (o : Outcome) (way : Settled) (r : Result (Unit {0}
 settled_then w o way r v u t c f = follows_event w r (Settle w) v u t refl (moved_as c (Settle w ∷ []) c.gives.0) f
 
 pub settle_refused : (w : ℕ) (o : Outcome) (f : DeskFault) (v u : View) → Called (call.Settle w o) (answer.Settled (Err f)) v u → Follows w (Err f) v u
-settle_refused w o f v u c = breaks w (call.Settle w o) (answer.Settled (Err f)) f v u c c.gives
+settle_refused w o f v u c =
+    breaks w (call.Settle w o) (answer.Settled (Err f)) f v u c (λ m h. spent_settle (constants u.fixed) (state_of u) w o h) c.gives

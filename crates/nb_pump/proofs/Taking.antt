@@ -28,11 +28,11 @@ use Rattle.nb_core.specs.declared.event.Event.{Event}
 use Rattle.nb_core.specs.declared.event.Event.TheVariants.{Take, Look}
 use Rattle.nb_core.specs.declared.phase.Phase.{Phase}
 use Rattle.nb_core.specs.declared.phase.Phase.TheVariants.{Idle, Held, Looked, Sending, Leaving, Done}
-use Rattle.nb_pump.specs.Leases.{IsOfLease, CanFollow, Follows, HoldsMessage, MayJudge, TurnIs}
+use Rattle.nb_pump.specs.Leases.{IsOfLease, IsSpentAt, CanFollow, Follows, HoldsMessage, MayJudge, TurnIs}
 use Rattle.nb_pump.specs.Made.{Moved}
 use Rattle.nb_pump.specs.declared.outcome.Next.TheVariants as next
 use Rattle.nb_pump.specs.declared.outcome.Turn.TheVariants.{Ended, Nothing, Limit}
-use Rattle.nb_pump.proofs.Following.{breaks, refused, follows_event, seen_after}
+use Rattle.nb_pump.proofs.Following.{breaks, none, refused, follows_event, seen_after}
 use Rattle.nb_pump.proofs.Settling.{sending_by, done_by}
 use Rattle.nb_pump.proofs.Views.{moved_as, owns_same, before, left, reaches, stays, off_after, moved_none, ran_before, sound_before}
 
@@ -118,7 +118,7 @@ module _ {v u : View} {w : ℕ} (m : Moved v (Look w ∷ []) u) (owns : Owns v w
       }
 
 pub look_refused : (w : ℕ) (f : DeskFault) (v u : View) → Called (call.Look w) (answer.Saw (Err f)) v u → Follows w (Err f) v u
-look_refused w f v u c = breaks w (call.Look w) (answer.Saw (Err f)) f v u c c.gives
+look_refused w f v u c = breaks w (call.Look w) (answer.Saw (Err f)) f v u c (none (IsSpentAt w u) (call.Look w) v u (λ h. h)) c.gives
 
 pub looked_then : (w : ℕ) (l : LookAnswer) (r : Result (Unit {0}) DeskFault) (v u t : View) → Called (call.Look w) (answer.Saw (Ok l)) v u → Follows w r u t → Follows w r v t
 looked_then w l r v u t c f = follows_event w r (Look w) v u t refl (moved_as c (Look w ∷ []) c.gives.0) f
@@ -148,7 +148,8 @@ module _ {v u : View} {w : ℕ} (m : Moved v (Take w ∷ []) u) (ready : Ready (
   taken_moment = ap (λ (y : State). y.moment) reached ∙ (left m w ready.0).moment_is
 
 pub take_refused : (w : ℕ) (f : DeskFault) (v u : View) → Called (call.Take w) (answer.Took (Err f)) v u → TurnIs w (Err f) v u
-take_refused w f v u c = let r = refused (call.Take w) (answer.Took (Err f)) f v u c c.gives in (inl r.0, r.1)
+take_refused w f v u c =
+    let r = refused (IsSpentAt w u) (call.Take w) (answer.Took (Err f)) f v u c (none (IsSpentAt w u) (call.Take w) v u (λ h. h)) c.gives in (inl r.0, r.1)
 
 pub took_nothing : (w : ℕ) (v u : View) → Called (call.Take w) (answer.Took (Ok NothingTaken)) v u → TurnIs w (Ok Nothing) v u
 took_nothing w v u c =

@@ -96,6 +96,10 @@ pub made_kept : (v w : View) (own : List Event) → Made v own w → (w.workers 
 made_kept v w [] m = (m.workers, m.fixed)
 made_kept v w (e ∷ es) m = let r = made_kept m.0 w es m.2 in (r.0 ∙ m.1.workers, r.1 ∙ m.1.fixed)
 
+-- who has every worker at the end had them at first
+pub owns_first : (v u : View) (xs : List Event) → Made v xs u → OwnsAll u → OwnsAll v
+owns_first v u xs m all = let kept = made_kept v u xs m in owns_all_same u v (sym kept.0) (sym kept.1) all
+
 pub made_legal : (v w : View) (own : List Event) → Made v own w → IsLegal w.fixed w.events
 made_legal v w [] m = m.legal
 made_legal v w (e ∷ es) m = made_legal m.0 w es m.2

@@ -1,5 +1,5 @@
 -- Ticks, each with the releases of what is due then.
-use Rattle.std.proofs.Common.{◌≡◌, ℕ, ◌<◌, ◌≤◌, max, List, [], ◌∷◌, ◌++◌, true, false, refl, sym, ap, ◌∙◌, subst, append_assoc, append-nil, arith}
+use Rattle.std.proofs.Common.{◌≡◌, inl, inr, ℕ, ◌<◌, ◌≤◌, max, List, [], ◌∷◌, ◌++◌, true, false, refl, sym, ap, ◌∙◌, subst, append_assoc, append-nil, arith}
 use Rattle.std.specs.Prelude.{Ok, Err, Some, None}
 use Rattle.nb_base.specs.declared.entry.Waiting.{Waiting}
 use Rattle.nb_core.proofs.Bridge.{step_after}
@@ -23,10 +23,10 @@ use Rattle.nb_core.specs.declared.state.State.{State}
 use Rattle.nb_pump.specs.Drains.{Standing, Leads, StopsAtLimit, waiting, HasDue, NoneBy, Rests, DueIs, ReleasesAre, WindIs}
 use Rattle.nb_pump.specs.Leases.{stop_of}
 use Rattle.nb_pump.specs.Made.{Moved, Made}
-use Rattle.nb_pump.proofs.Following.{refused}
+use Rattle.nb_pump.proofs.Following.{Calm, stopped, stopped_asking, stopped_behind, stopped_there}
 use Rattle.nb_pump.proofs.Limits.{limit_same, limit_stop}
 use Rattle.nb_pump.proofs.Releasing.{same_here, step_here, standing_on, rests_still, events_here}
-use Rattle.nb_pump.proofs.Views.{moved_as, made_append, made_one, made_kept, moved_none, stays}
+use Rattle.nb_pump.proofs.Views.{moved_as, off_after, made_append, made_one, made_kept, moved_none, stays}
 
 -- ---- a Tick
 
@@ -50,6 +50,7 @@ pub record Winding (until now : ℕ) (v u : View) : Type 0 where
   pub takes_are : takes u.events ≡ takes v.events
   pub now_is : (state_of u).moment ≡ now
   pub empty : IsOwnEmpty (constants u.fixed) (state_of u)
+  pub calm : Calm own u
 
 pub winding_start : (until now : ℕ) (v : View) → Standing v → (state_of v).moment ≡ now → IsOwnEmpty (constants v.fixed) (state_of v) → Winding until now v v
 winding_start until now v st is empty = record {
@@ -61,6 +62,7 @@ winding_start until now v st is empty = record {
   takes_are = refl;
   now_is = is;
   empty = empty;
+  calm = inl refl;
 }
 
 -- a question changes nothing
@@ -76,6 +78,7 @@ winding_asked until now v u x r m rests =
       takes_are = rests.takes_are ∙ r.takes_are;
       now_is = ap (λ (s : State). s.moment) is ∙ r.now_is;
       empty = subst (λ (y : Fixed × State). IsOwnEmpty (constants y.0) y.1) (λ i. (sym m.fixed i, sym is i)) r.empty;
+      calm = inr rests.on;
     }
 
 pub winding_unasked : (until now : ℕ) (f : DeskFault) (v u x : View) → Winding until now v u → DueIs until (Err f) u x → WindIs until (Err f) v x
@@ -83,7 +86,7 @@ winding_unasked until now f v u x r d = record {
   own = r.own;
   made = subst (λ (es : List Event). Made v es x) (append-nil r.own) (made_append v u x r.own [] r.made d.0);
   limit = r.limit;
-  end = (subst (λ (es : List Event). Pace (constants v.fixed) until working (state_of v) es) (append-nil r.own) (r.leads [] ended), d.1);
+  end = (subst (λ (es : List Event). Pace (constants v.fixed) until working (state_of v) es) (append-nil r.own) (r.leads [] ended), stopped_there ⊥ f v u x r.own r.standing.owns r.made r.calm d.1);
 }
 
 -- nothing is left that is due
@@ -108,6 +111,7 @@ pub record Started (until to : ℕ) (v u : View) : Type 0 where
   pub takes_are : takes u.events ≡ takes v.events
   pub now_is : (state_of u).moment ≡ to
   pub due : HasDue (state_of u)
+  pub on : halted u.events ≡ false
 
 kept_fixed : (until now : ℕ) (v u : View) → Winding until now v u → u.fixed ≡ v.fixed
 kept_fixed until now v u r = (made_kept v u r.own r.made).1
@@ -138,6 +142,7 @@ winding_ticked until now to x v u w r next le is c =
       takes_are = takes_tick m r.standing.owns ∙ r.takes_are;
       now_is = k.moment;
       due = (x.number, x.due, k.due_is x.number x.due next, (let a = k.moment in omega arith));
+      on = off_after m refl;
     }
 
 pub tick_waits : (until now to : ℕ) (v u w : View) → Winding until now v u → Called (call.Tick to) (answer.Plain (Ok tt)) u w → waiting (state_of w) ≡ waiting (state_of u)
@@ -146,20 +151,20 @@ tick_waits until now to v u w r c =
 
 pub winding_unticked : (until now to : ℕ) (f : DeskFault) (v u w : View) → Winding until now v u → Called (call.Tick to) (answer.Plain (Err f)) u w → WindIs until (Err f) v w
 winding_unticked until now to f v u w r c =
-    let k = refused (call.Tick to) (answer.Plain (Err f)) f u w c c.gives in
+    let k = stopped ⊥ (call.Tick to) (answer.Plain (Err f)) f u w c r.standing.owns (λ m h. h) c.gives in
     record {
       own = r.own ++ stop_of f;
       made = made_append v u w r.own (stop_of f) r.made k.0;
       limit = limit_same v u r.own (stop_of f) r.standing.owns r.made r.takes_are r.limit (limit_stop u f);
-      end = (r.leads (stop_of f) (stopped f), k.1);
+      end = (r.leads (stop_of f) (halts f), stopped_behind ⊥ f v u w r.own (stop_of f) r.standing.owns r.made r.calm k.1);
     }
   where
-    stopped : (f : DeskFault) → Pace (constants v.fixed) until working (state_of u) (stop_of f)
-    stopped StoreFailed = Rattle.nb_core.specs.Paced.work tt ended
-    stopped PostFailed = Rattle.nb_core.specs.Paced.work tt ended
-    stopped Spent = ended
-    stopped Halted = ended
-    stopped NoMemory = ended
+    halts : (f : DeskFault) → Pace (constants v.fixed) until working (state_of u) (stop_of f)
+    halts StoreFailed = Rattle.nb_core.specs.Paced.work tt ended
+    halts PostFailed = Rattle.nb_core.specs.Paced.work tt ended
+    halts Spent = ended
+    halts Halted = ended
+    halts NoMemory = ended
 
 -- ---- and the releases then
 
@@ -173,6 +178,7 @@ pub record Settled (until to : ℕ) (v u : View) : Type 0 where
   pub takes_are : takes u.events ≡ takes v.events
   pub now_is : (state_of u).moment ≡ to
   pub all : AllReleased (state_of u)
+  pub on : halted u.events ≡ false
 
 start_fixed : (until to : ℕ) (v u : View) → Started until to v u → u.fixed ≡ v.fixed
 start_fixed until to v u r = (made_kept v u r.own r.made).1
@@ -192,6 +198,7 @@ winding_released until to v u w r x =
       takes_are = x.end.1.takes_are ∙ r.takes_are;
       now_is = x.end.2 ∙ r.now_is;
       all = x.end.3;
+      on = x.end.1.on;
     }
 
 pub winding_less : (until to : ℕ) (v u w : View) → Started until to v u → ReleasesAre (Ok tt) u w → waiting (state_of w) < waiting (state_of u)
@@ -204,7 +211,7 @@ winding_unreleased until to f v u w r x =
       own = r.own ++ x.own;
       made = made_append v u w r.own x.own r.made x.made;
       limit = limit_same v u r.own x.own r.standing.owns r.made r.takes_are r.limit x.limit;
-      end = (r.leads x.own (subst (λ (c : Fixed). Pace (constants c) until releasing (state_of u) x.own) fixed (x.end.0 until)), x.end.1);
+      end = (r.leads x.own (subst (λ (c : Fixed). Pace (constants c) until releasing (state_of u) x.own) fixed (x.end.0 until)), stopped_behind ⊥ f v u w r.own x.own r.standing.owns r.made (inr r.on) x.end.1);
     }
 
 settled_still : (until to : ℕ) (v u w : View) → Settled until to v u → Moved u [] w → Settled until to v w
@@ -219,6 +226,7 @@ settled_still until to v u w r m =
       takes_are = ap (λ (es : List Event). takes es) (events_here m r.standing.owns) ∙ r.takes_are;
       now_is = ap (λ (s : State). s.moment) is ∙ r.now_is;
       all = subst AllReleased (sym is) r.all;
+      on = ap (λ (es : List Event). halted es) (events_here m r.standing.owns) ∙ r.on;
     }
 
 -- the own queue is empty: time goes on
@@ -227,7 +235,7 @@ winding_on until to v u w r c =
     let m : Moved u [] w = moved_as c [] c.gives.0 in
     let s = settled_still until to v u w r m in
     let drained : Drained (constants w.fixed) (state_of w) to = subst (λ (y : Fixed × State). Drained (constants y.0) y.1 to) (λ i. (sym m.fixed i, sym (stays m) i)) c.gives.2 in
-    record { own = s.own; made = s.made; limit = s.limit; leads = s.leads; standing = s.standing; takes_are = s.takes_are; now_is = s.now_is; empty = drained.empty }
+    record { own = s.own; made = s.made; limit = s.limit; leads = s.leads; standing = s.standing; takes_are = s.takes_are; now_is = s.now_is; empty = drained.empty; calm = inr s.on }
 
 pub drained_waits : (until to : ℕ) (v u w : View) → Settled until to v u → Called (call.IsDrained to) (answer.IsDrained (Ok true)) u w → waiting (state_of w) ≡ waiting (state_of u)
 drained_waits until to v u w r c = let m : Moved u [] w = moved_as c [] c.gives.0 in ap waiting (same_here m r.standing.owns)
@@ -262,14 +270,17 @@ asks_none Halted to fixed es own r = r.0
 asks_none NoMemory to fixed es own r = r.0
 
 pub winding_unknown : (until to : ℕ) (f : DeskFault) (v u w : View) → Settled until to v u → Called (call.IsDrained to) (answer.IsDrained (Err f)) u w → WindIs until (Err f) v w
+unfolding settled_still
 winding_unknown until to f v u w r c =
-    let m : Moved u [] w = moved_as c [] (asks_none f to u.fixed (u.events ++ c.others) c.own c.gives) in
+    let silent = asks_none f to u.fixed (u.events ++ c.others) c.own c.gives in
+    let m : Moved u [] w = moved_as c [] silent in
     let s = settled_still until to v u w r m in
+    let k = stopped_asking ⊥ (call.IsDrained to) (answer.IsDrained (Err f)) f u w c r.standing.owns (λ m h. h) c.gives silent in
     record {
       own = s.own;
       made = s.made;
       limit = s.limit;
-      end = (subst (λ (es : List Event). Pace (constants v.fixed) until working (state_of v) es) (append-nil s.own) (s.leads [] ended), (refused (call.IsDrained to) (answer.IsDrained (Err f)) f u w c c.gives).1);
+      end = (subst (λ (es : List Event). Pace (constants v.fixed) until working (state_of v) es) (append-nil s.own) (s.leads [] ended), stopped_there ⊥ f v u w r.own r.standing.owns r.made (inr r.on) k);
     }
 
 -- fewer entries wait after a Tick, its releases and a question

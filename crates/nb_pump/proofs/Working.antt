@@ -1,5 +1,5 @@
 -- Leases of worker 0, one after another.
-use Rattle.std.proofs.Common.{◌≡◌, ◌≢◌, ◌⊎◌, inl, inr, ⊎_elim, ℕ, ◌+◌, ◌-◌, ◌<◌, ◌≤◌, List, [], ◌∷◌, ◌++◌, true, false, refl, sym, ap, ◌∙◌, subst, append_assoc, append-nil, arith}
+use Rattle.std.proofs.Common.{◌≡◌, ◌≢◌, ◌⊎◌, inl, inr, ⊎_elim, ℕ, ◌+◌, ◌-◌, ◌<◌, ◌≤◌, List, [], ◌∷◌, ◌++◌, Bool, true, false, refl, sym, ap, ◌∙◌, subst, append_assoc, append-nil, arith}
 use Rattle.std.specs.Prelude.{All, Ok, Err, Some}
 use Rattle.std.proofs.lemmas.Bool.Decides.{nat_tests}
 use Rattle.std.proofs.lemmas.List.Elements.{All-append, All-cons, All-nil, All-head, All-tail}
@@ -9,7 +9,7 @@ use Rattle.nb_core.proofs.Pasts.{Leaves, leaves_all, run_from}
 use Rattle.nb_core.specs.After.{after, run}
 use Rattle.nb_core.specs.Calls.{View, Foreign, Ready, state_of, times}
 use Rattle.nb_core.specs.History.{Run, opened}
-use Rattle.nb_core.specs.Legal.{TakesFrom}
+use Rattle.nb_core.specs.Legal.{TakesFrom, halted, halted_after, is_halt}
 use Rattle.nb_core.specs.Paced.{Pace, ended, work, working, IsOfTurn, IsOwnEmpty}
 use Rattle.nb_core.specs.Past.{Fixed, IsLegal, constants, state_after, taken, takes}
 use Rattle.nb_core.specs.State.{Constants, AllIdle, phase, number_of}
@@ -21,10 +21,12 @@ use Rattle.nb_core.specs.declared.event.Event.TheVariants.{Load, Take, Look, Set
 use Rattle.nb_core.specs.declared.phase.Phase.{Phase}
 use Rattle.nb_core.specs.declared.phase.Phase.TheVariants.{Idle}
 use Rattle.nb_core.specs.declared.state.State.{State}
-use Rattle.nb_pump.specs.Drains.{Standing, Leads, TurnsAre}
-use Rattle.nb_pump.specs.Leases.{IsOfLease, stop_of, TurnIs}
+use Rattle.nb_pump.specs.Drains.{Standing, Leads, IsSomeSpent, TurnsAre}
+use Rattle.nb_pump.specs.Leases.{IsOfLease, IsCause, IsSpentAt, stop_of, TurnIs}
 use Rattle.nb_pump.specs.Made.{Made}
+use Rattle.nb_pump.specs.Stops.{StopsBy}
 use Rattle.nb_pump.specs.declared.outcome.Turn.TheVariants.{Ended, Nothing, Limit}
+use Rattle.nb_pump.proofs.Following.{Calm, stopped_behind}
 use Rattle.nb_pump.proofs.Limits.{taken_append}
 use Rattle.nb_pump.proofs.Releasing.{standing_on, same_here, events_here}
 use Rattle.nb_pump.proofs.Views.{owns_all_same, made_alone, made_append, made_kept, made_legal, moved_none, holding_of}
@@ -172,6 +174,51 @@ module _ (u x : View) (st : Standing u) (rest : List Event) (of_lease : All (IsO
     more = ap (λ (es : List Event). takes es) events ∙ taken_append 0 u.events (Take 0 ∷ rest) ∙ no_takes 0 (takes u.events + 1) rest of_lease;
   }
 
+-- ---- a fault in a lease
+
+halted_append : (b : Bool) (xs ys : List Event) → halted_after b (xs ++ ys) ≡ halted_after (halted_after b xs) ys
+halted_append b [] ys = refl
+halted_append b (x ∷ xs) ys = halted_append (is_halt x) xs ys
+
+-- the events of a lease end in no Halt
+lease_calm : (w : ℕ) (es : List Event) → All (IsOfLease w) es → halted_after false es ≡ false
+lease_calm w [] h = refl
+lease_calm w (Load m ∷ es) h = absurd (All-head (IsOfLease w) (Load m) es h)
+lease_calm w (Take k ∷ es) h = absurd (All-head (IsOfLease w) (Take k) es h)
+lease_calm w (Look k ∷ es) h = lease_calm w es (All-tail (IsOfLease w) (Look k) es h)
+lease_calm w (Settle k ∷ es) h = lease_calm w es (All-tail (IsOfLease w) (Settle k) es h)
+lease_calm w (Send k ∷ es) h = lease_calm w es (All-tail (IsOfLease w) (Send k) es h)
+lease_calm w (Mark k ∷ es) h = lease_calm w es (All-tail (IsOfLease w) (Mark k) es h)
+lease_calm w (Aside k ∷ es) h = lease_calm w es (All-tail (IsOfLease w) (Aside k) es h)
+lease_calm w (Remove k ∷ es) h = lease_calm w es (All-tail (IsOfLease w) (Remove k) es h)
+lease_calm w (Tick to ∷ es) h = absurd (All-head (IsOfLease w) (Tick to) es h)
+lease_calm w (Release n ∷ es) h = absurd (All-head (IsOfLease w) (Release n) es h)
+lease_calm w (Purge id ∷ es) h = absurd (All-head (IsOfLease w) (Purge id) es h)
+lease_calm w (PutBack n ∷ es) h = absurd (All-head (IsOfLease w) (PutBack n) es h)
+lease_calm w (DropBack n ∷ es) h = absurd (All-head (IsOfLease w) (DropBack n) es h)
+lease_calm w (Stop moment ∷ es) h = absurd (All-head (IsOfLease w) (Stop moment) es h)
+lease_calm w (Halt store ∷ es) h = absurd (All-head (IsOfLease w) (Halt store) es h)
+
+-- a fault at the Take
+faulted_first : (f : DeskFault) (u x : View) → Standing u → Made u (stop_of f) x → IsCause (IsSpentAt 0 x) f x → StopsBy (IsSomeSpent x) f u (stop_of f) x
+faulted_first StoreFailed u x st m k = ([], refl)
+faulted_first PostFailed u x st m k = ([], refl)
+faulted_first Spent u x st m k = (k.0, (0, k.1))
+faulted_first Halted u x st m k = (refl, ap (λ (es : List Event). halted es) (sym (made_alone u x [] st.owns m ∙ append-nil u.events)) ∙ k)
+faulted_first NoMemory u x st m k = k
+
+-- a fault behind it
+faulted_later : (f : DeskFault) (u x : View) (rest : List Event) → Standing u → All (IsOfLease 0) rest → Made u (Take 0 ∷ (rest ++ stop_of f)) x → IsCause (IsSpentAt 0 x) f x
+    → StopsBy (IsSomeSpent x) f u (Take 0 ∷ (rest ++ stop_of f)) x
+faulted_later StoreFailed u x rest st h m k = (Take 0 ∷ rest, refl)
+faulted_later PostFailed u x rest st h m k = (Take 0 ∷ rest, refl)
+faulted_later Spent u x rest st h m k = (k.0, (0, k.1))
+faulted_later Halted u x rest st h m k =
+    let events : x.events ≡ u.events ++ (Take 0 ∷ rest) = made_alone u x (Take 0 ∷ (rest ++ [])) st.owns m ∙ ap (λ (es : List Event). u.events ++ (Take 0 ∷ es)) (append-nil rest) in
+    let calm : halted x.events ≡ false = ap (λ (es : List Event). halted es) events ∙ halted_append false u.events (Take 0 ∷ rest) ∙ lease_calm 0 rest h in
+    let clash : true ≡ false = sym k ∙ calm in absurd (cc)
+faulted_later NoMemory u x rest st h m k = k
+
 -- ---- the leases so far
 
 pub record Working (moment : ℕ) (v u : View) : Type 0 where
@@ -182,6 +229,7 @@ pub record Working (moment : ℕ) (v u : View) : Type 0 where
   pub standing : Standing u
   pub same : (state_of u).moment ≡ (state_of v).moment
   pub now : (state_of u).moment ≡ moment
+  pub calm : Calm own u
   pub took : (takes v.events < takes u.events) ⊎ ((state_of u ≡ state_of v) × (u.fixed ≡ v.fixed) × (takes u.events ≡ takes v.events))
 
 pub working_start : (moment : ℕ) (v : View) → Standing v → (state_of v).moment ≡ moment → Working moment v v
@@ -193,6 +241,7 @@ working_start moment v st now = record {
   standing = st;
   same = refl;
   now = now;
+  calm = inl refl;
   took = inr (refl, refl, refl);
 }
 
@@ -214,6 +263,7 @@ working_more moment v u x r t =
       standing = k.standing;
       same = k.same ∙ r.same;
       now = k.same ∙ r.now;
+      calm = inr t.4;
       took = inl (⊎_elim (λ (lt : takes v.events < takes u.events). (omega (arith, lt, one)))
           (λ (e : (state_of u ≡ state_of v) × (u.fixed ≡ v.fixed) × (takes u.events ≡ takes v.events)). let q = e.2 in (omega (arith, q, one))) r.took);
     }
@@ -300,7 +350,8 @@ working_fault moment f v u x r t = ⊎_elim
       own = r.own ++ stop_of f;
       made = made_append v u x r.own (stop_of f) r.made m;
       of_turns = All-append IsOfTurn r.own (stop_of f) r.of_turns (stop_turns f);
-      end = ((λ until. r.leads until (stop_of f) (worked (constants v.fixed) until (state_of u) (stop_of f) (stop_turns f))), t.1);
+      end = ((λ until. r.leads until (stop_of f) (worked (constants v.fixed) until (state_of u) (stop_of f) (stop_turns f))),
+          stopped_behind (IsSomeSpent x) f v u x r.own (stop_of f) r.standing.owns r.made r.calm (faulted_first f u x r.standing m t.1));
     })
     (λ (y : (own : List Event) × All (IsOfLease 0) own × Made u (Take 0 ∷ own ++ stop_of f) x).
     let own : List Event = Take 0 ∷ (y.0 ++ stop_of f) in
@@ -309,7 +360,8 @@ working_fault moment f v u x r t = ⊎_elim
       own = r.own ++ own;
       made = made_append v u x r.own own r.made y.2;
       of_turns = All-append IsOfTurn r.own own r.of_turns turns;
-      end = ((λ until. r.leads until own (worked (constants v.fixed) until (state_of u) own turns)), t.1);
+      end = ((λ until. r.leads until own (worked (constants v.fixed) until (state_of u) own turns)),
+          stopped_behind (IsSomeSpent x) f v u x r.own own r.standing.owns r.made r.calm (faulted_later f u x y.0 r.standing y.1 y.2 t.1));
     })
     t.0
 

@@ -15,7 +15,8 @@ use Rattle.nb_core.specs.declared.answers.DeskFault.{DeskFault}
 use Rattle.nb_core.specs.declared.event.Event.{Event}
 use Rattle.nb_core.specs.declared.event.Event.TheVariants.{Take, Tick, Release, Stop}
 use Rattle.nb_core.specs.declared.state.State.{State}
-use Rattle.nb_pump.specs.Leases.{IsCause}
+use Rattle.nb_pump.specs.Stops.{StopsBy}
+use Rattle.nb_pump.specs.Leases.{IsSpentAt}
 use Rattle.nb_pump.specs.Made.{Made, Moved}
 
 -- every worker is the caller's and is idle
@@ -77,7 +78,7 @@ StopsAtLimit v own = HasTake v → KeepsLimit v.fixed.turns (takes v.events) own
 abbrev pub DueIs : ℕ → Result (Option Waiting) DeskFault → View → View → Type 0
 DueIs moment (Ok (Some x)) v w = Moved v [] w × Rests v w × IsNextDue (state_of w) x.number x.due × (x.due ≤ moment)
 DueIs moment (Ok None) v w = Moved v [] w × Rests v w × NoneBy (state_of w) moment
-DueIs moment (Err f) v w = Moved v [] w × IsCause f w
+DueIs moment (Err f) v w = Moved v [] w × StopsBy ⊥ f v [] w
 
 -- ---- releases
 
@@ -85,7 +86,7 @@ abbrev pub ReleasesEnd : Result (Unit {0}) DeskFault → List Event → View →
 ReleasesEnd (Ok u) own v w =
     ((until : ℕ) → Leads (constants v.fixed) until releasing (state_of v) own releasing (state_of w)) × Rests v w × ((state_of w).moment ≡ (state_of v).moment)
     × AllReleased (state_of w) × (waiting (state_of w) ≤ waiting (state_of v)) × (HasDue (state_of v) → waiting (state_of w) < waiting (state_of v))
-ReleasesEnd (Err f) own v w = ((until : ℕ) → Pace (constants v.fixed) until releasing (state_of v) own) × IsCause f w
+ReleasesEnd (Err f) own v w = ((until : ℕ) → Pace (constants v.fixed) until releasing (state_of v) own) × StopsBy ⊥ f v own w
 
 -- all that was due is released, by due and then number; or a fault came
 pub record ReleasesAre (r : Result (Unit {0}) DeskFault) (v w : View) : Type 0 where
@@ -102,7 +103,7 @@ WindEnd until (Ok (Some now)) own v w =
     × (IsOwnEmpty (constants w.fixed) (state_of w) → ⊥)
 WindEnd until (Ok None) own v w =
     Leads (constants v.fixed) until working (state_of v) own working (state_of w) × Rests v w × Drained (constants w.fixed) (state_of w) until
-WindEnd until (Err f) own v w = Pace (constants v.fixed) until working (state_of v) own × IsCause f w
+WindEnd until (Err f) own v w = Pace (constants v.fixed) until working (state_of v) own × StopsBy ⊥ f v own w
 
 -- time goes on until something stands in the own queue, or nothing is left that is due by the last moment
 pub record WindIs (until : ℕ) (r : Result (Option ℕ) DeskFault) (v w : View) : Type 0 where
@@ -113,13 +114,18 @@ pub record WindIs (until : ℕ) (r : Result (Option ℕ) DeskFault) (v w : View)
 
 -- ---- leases of worker 0, one after another
 
+-- the next event of some worker needs a number that stands at its end
+abbrev pub IsSomeSpent : View → Type 0
+IsSomeSpent v = (w : ℕ) × IsSpentAt w v
+
 abbrev pub TurnsEnd : Result Bool DeskFault → List Event → View → View → Type 0
 TurnsEnd (Ok true) own v w =
     ((until : ℕ) → Leads (constants v.fixed) until working (state_of v) own working (state_of w)) × Standing w × (halted w.events ≡ false) × ((state_of w).moment ≡ (state_of v).moment)
     × HasTake w × IsOwnEmpty (constants w.fixed) (state_of w) × ((IsOwnEmpty (constants v.fixed) (state_of v) → ⊥) → takes v.events < takes w.events)
 TurnsEnd (Ok false) own v w =
     ((until : ℕ) → Pace (constants v.fixed) until working (state_of v) own) × Standing w × (halted w.events ≡ false) × (w.fixed.turns ≤ takes w.events)
-TurnsEnd (Err f) own v w = ((until : ℕ) → Pace (constants v.fixed) until working (state_of v) own) × IsCause f w
+TurnsEnd (Err f) own v w =
+    ((until : ℕ) → Pace (constants v.fixed) until working (state_of v) own) × StopsBy (IsSomeSpent w) f v own w
 
 -- leases until nothing is free, or until no Take is left; or a fault came
 pub record TurnsAre (r : Result Bool DeskFault) (v w : View) : Type 0 where
@@ -130,10 +136,11 @@ pub record TurnsAre (r : Result Bool DeskFault) (v w : View) : Type 0 where
 
 -- ---- the drain
 
-abbrev pub DrainEnd : ℕ → Result Bool DeskFault → View → Type 0
-DrainEnd until (Ok true) w = (halted w.events ≡ false) × Drained (constants w.fixed) (state_of w) until
-DrainEnd until (Ok false) w = (halted w.events ≡ false) × (Drained (constants w.fixed) (state_of w) until → ⊥) × (w.fixed.turns ≤ takes w.events)
-DrainEnd until (Err f) w = IsCause f w
+abbrev pub DrainEnd : ℕ → Result Bool DeskFault → List Event → View → View → Type 0
+DrainEnd until (Ok true) own v w = (halted w.events ≡ false) × Drained (constants w.fixed) (state_of w) until
+DrainEnd until (Ok false) own v w =
+    (halted w.events ≡ false) × (Drained (constants w.fixed) (state_of w) until → ⊥) × (w.fixed.turns ≤ takes w.events) × AllIdle (state_of w)
+DrainEnd until (Err f) own v w = StopsBy (IsSomeSpent w) f v own w
 
 -- events in pace, from this mode on, at whose end the state is drained, or no Take is left; or a fault came
 pub record DrainIs (until : ℕ) (mode : Mode) (r : Result Bool DeskFault) (v w : View) : Type 0 where
@@ -141,4 +148,4 @@ pub record DrainIs (until : ℕ) (mode : Mode) (r : Result Bool DeskFault) (v w 
   pub made : Made v own w
   pub paced : Pace (constants v.fixed) until mode (state_of v) own
   pub limit : StopsAtLimit v own
-  pub end : DrainEnd until r w
+  pub end : DrainEnd until r own v w

@@ -5,16 +5,16 @@ use Rattle.nb_base.specs.Messages.{Message}
 use Rattle.nb_base.specs.declared.entry.Which.TheVariants.{Base, Post}
 use Rattle.nb_base.specs.declared.saga_row.Read.{Read}
 use Rattle.nb_base.specs.declared.tables.Queued.{Queued}
-use Rattle.nb_core.specs.Calls.{View, state_of, IsSpent, Ready}
+use Rattle.nb_core.specs.Calls.{View, state_of, Ready}
 use Rattle.nb_core.specs.Legal.{halted}
 use Rattle.nb_core.specs.Past.{IsLegal, constants, takes}
+use Rattle.nb_core.specs.Spent.{IsWorkerSpent}
 use Rattle.nb_core.specs.State.{phase, entry, IsFree}
 use Rattle.nb_core.specs.declared.state.State.{State}
 use Rattle.nb_core.specs.declared.answers.DeskFault.{DeskFault}
 use Rattle.nb_core.specs.declared.answers.DeskFault.TheVariants.{StoreFailed, PostFailed, Spent, Halted, NoMemory}
 use Rattle.nb_core.specs.declared.answers.Settled.{Settled}
 use Rattle.nb_core.specs.declared.answers.Settled.TheVariants as settled
-use Rattle.nb_core.specs.declared.call.Call.{Call}
 use Rattle.nb_core.specs.declared.call.Call.TheVariants as call
 use Rattle.nb_core.specs.declared.event.Event.{Event}
 use Rattle.nb_core.specs.declared.event.Event.TheVariants.{Load, Take, Look, Settle, Send, Mark, Aside, Remove, Tick, Release, Purge, PutBack, DropBack, Stop, Halt}
@@ -55,13 +55,17 @@ stop_of NoMemory = []
 abbrev pub EndsIn : List Event → Event → Type 0
 EndsIn es e = (before : List Event) × (es ≡ before ++ e ∷ [])
 
--- why a fault was met, in what is seen after it
-abbrev pub IsCause : DeskFault → View → Type 0
-IsCause StoreFailed v = EndsIn v.events (Halt Base)
-IsCause PostFailed v = EndsIn v.events (Halt Post)
-IsCause Spent v = (halted v.events ≡ false) × ((x : Call) × IsSpent (constants v.fixed) (state_of v) x)
-IsCause Halted v = halted v.events ≡ true
-IsCause NoMemory v = halted v.events ≡ false
+-- the next event of the worker needs a number that stands at its end
+abbrev pub IsSpentAt : ℕ → View → Type 0
+IsSpentAt w v = IsWorkerSpent (constants v.fixed) (state_of v) w
+
+-- why a fault was met, in what is seen after it; S says which number is spent
+abbrev pub IsCause : Type 0 → DeskFault → View → Type 0
+IsCause S StoreFailed v = EndsIn v.events (Halt Base)
+IsCause S PostFailed v = EndsIn v.events (Halt Post)
+IsCause S Spent v = (halted v.events ≡ false) × S
+IsCause S Halted v = halted v.events ≡ true
+IsCause S NoMemory v = halted v.events ≡ false
 
 -- the worker holds an entry with this message
 pub record HoldsMessage (s : State) (w : ℕ) (m : Message) : Type 0 where
@@ -99,7 +103,7 @@ CanFollow next.Leave w v = IsLegal v.fixed v.events × (phase (state_of v) w ≡
 
 abbrev pub FollowEnd : ℕ → Result (Unit {0}) DeskFault → List Event → View → View → Type 0
 FollowEnd w (Ok u) own v x = Made v own x × (phase (state_of x) w ≡ Idle) × (halted x.events ≡ false)
-FollowEnd w (Err f) own v x = Made v (own ++ stop_of f) x × IsCause f x
+FollowEnd w (Err f) own v x = Made v (own ++ stop_of f) x × IsCause (IsSpentAt w x) f x
 
 -- own events of the lease, after which the worker is idle, or a fault
 pub record Follows (w : ℕ) (r : Result (Unit {0}) DeskFault) (v x : View) : Type 0 where
@@ -112,7 +116,7 @@ pub record Follows (w : ℕ) (r : Result (Unit {0}) DeskFault) (v x : View) : Ty
 -- a fault at the Take, or behind it
 abbrev pub Breaks : ℕ → DeskFault → View → View → Type 0
 Breaks w f v x =
-    (Made v (stop_of f) x ⊎ ((own : List Event) × All (IsOfLease w) own × Made v (Take w ∷ own ++ stop_of f) x)) × IsCause f x
+    (Made v (stop_of f) x ⊎ ((own : List Event) × All (IsOfLease w) own × Made v (Take w ∷ own ++ stop_of f) x)) × IsCause (IsSpentAt w x) f x
 
 -- a lease: the Take, and what follows; or there was nothing to take; or no Take is left
 abbrev pub TurnIs : ℕ → Result Turn DeskFault → View → View → Type 0

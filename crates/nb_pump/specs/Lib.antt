@@ -1,3 +1,4 @@
+pub mod Stops
 pub mod Drains
 pub mod Leases
 pub mod Made

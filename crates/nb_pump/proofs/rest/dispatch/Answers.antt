@@ -42,4 +42,6 @@ pub returns-in_err-send-clause-follows : goal.returns-in_err-send-clause-follows
 returns-in_err-send-clause-follows g c =
     let i = c.loop.invariant.0 in
     let p = err_from_is_err_and c.from_residual-in_err-send.result c.from_residual-in_err-send.ensures.1 in
-    rw (p.1, p.2) (dispatch_refused c.args.w i.0 c.in_err-send.field-0.0 _ _ _ i.2 c.in_err-send.ensures.call)
+    let sum = i.1 in
+    let more = c.loop-test.true in
+    rw (p.1, p.2) (dispatch_refused c.args.w i.0 c.in_err-send.field-0.0 _ _ _ (omega arith) i.2 c.in_err-send.ensures.call)
