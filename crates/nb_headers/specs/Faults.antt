@@ -10,6 +10,10 @@ abbrev pub with_headers : Pairs → Pairs → Pairs
 with_headers hs [] = hs
 with_headers hs (p ∷ ps) = with_headers (with_header hs p.0 p.1) ps
 
+-- the message with each of these headers set
+abbrev pub with_all : Message → Pairs → Message
+with_all m ps = record m { headers = with_headers m.headers ps }
+
 -- the headers with these names taken out
 abbrev pub without_headers : Pairs → List (List ℕ) → Pairs
 without_headers hs [] = hs

@@ -1,6 +1,6 @@
 //! The headers of messages that failed.
 ghost use Rattle.std.specs.Prelude.{◌≡◌, IfOk, OnOk, OnErr};
-ghost use Rattle.nb_headers.specs.Faults.{with_headers, fault_pairs, with_fault, stripped};
+ghost use Rattle.nb_headers.specs.Faults.{with_all, fault_pairs, with_fault, stripped};
 
 use crate::moments::moment_text;
 use crate::names::{
@@ -20,7 +20,8 @@ fn set_fault(
     name: &str,
     text: &str,
 ) -> Result<(), NoMemory>
-    ensures { OnOk result (envelope.new ≡ record envelope.old { headers = with_headers envelope.old.headers (fault_pairs endpoint.now time.now name.now text.now) }) }
+    ensures { OnOk result (envelope.new
+            ≡ with_all envelope.old (fault_pairs endpoint.now time.now name.now text.now)) }
 {
     set(alloc, envelope, FAILED_Q, endpoint)?;
     set(alloc, envelope, TIME_OF_FAILURE, time)?;
@@ -63,7 +64,8 @@ pub fn fault_headers(
     text: &Text,
     moment: Moment,
 ) -> Result<(), NoMemory>
-    ensures ok { OnOk result (envelope.new ≡ with_fault settings.now name.now text.now moment envelope.old) }
+    ensures ok { OnOk result (envelope.new
+            ≡ with_fault settings.now name.now text.now moment envelope.old) }
     ensures err { OnErr result (envelope.new ≡ envelope.old) }
 {
     *envelope = with_fault(alloc, envelope, settings, name, text, moment)?;

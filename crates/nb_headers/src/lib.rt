@@ -13,4 +13,4 @@ pub use faults::{fault_headers, strip_fault, with_fault};
 pub use made::{Made, SagaName};
 pub use moments::{moment_text, read_moment};
 pub use outgoing::causation;
-pub use reads::{message_id, message_type, round};
+pub use reads::{message_id, message_type, round, type_name};

@@ -1,7 +1,7 @@
 //! The headers of outgoing messages.
 ghost use Rattle.std.specs.Prelude.{◌≡◌, ◌≢◌, ◌<◌, ◌++◌, length, IsSome, IfOk, OnOk, option_copied};
 ghost use Rattle.nb_base.specs.Messages.{header};
-ghost use Rattle.nb_headers.specs.Faults.{with_headers};
+ghost use Rattle.nb_headers.specs.Faults.{with_all};
 ghost use Rattle.nb_headers.specs.Reads.{id_of, header_or};
 ghost use Rattle.nb_headers.specs.Outgoing.{intent_text, conversation, correlation, relations, origin, contents, common, from_saga, timeout_mark, to_saga, to_saga_of, to_own, to_sender, addressee, outgoing};
 
@@ -54,7 +54,7 @@ fn relate(
     incoming: &Envelope,
     made: &Made,
 ) -> Result<(), NoMemory>
-    ensures { OnOk result (envelope.new ≡ record envelope.old { headers = with_headers envelope.old.headers (relations incoming.now made.now) }) }
+    ensures { OnOk result (envelope.new ≡ with_all envelope.old (relations incoming.now made.now)) }
 {
     let id = message_id(incoming);
     let conversation = header_or(incoming, CONVERSATION_ID, id);
@@ -66,7 +66,7 @@ fn relate(
 
 /// Names the endpoint that sends the message.
 fn name_origin(alloc: Global, envelope: &mut Envelope, endpoint: &str) -> Result<(), NoMemory>
-    ensures { OnOk result (envelope.new ≡ record envelope.old { headers = with_headers envelope.old.headers (origin endpoint.now) }) }
+    ensures { OnOk result (envelope.new ≡ with_all envelope.old (origin endpoint.now)) }
 {
     set(alloc, envelope, ORIGINATING_ENDPOINT, endpoint)?;
     set(alloc, envelope, REPLY_TO_ADDRESS, endpoint)
@@ -74,7 +74,7 @@ fn name_origin(alloc: Global, envelope: &mut Envelope, endpoint: &str) -> Result
 
 /// Says what the body is, and when it was sent.
 fn describe(alloc: Global, envelope: &mut Envelope, name: &str, time: &str) -> Result<(), NoMemory>
-    ensures { OnOk result (envelope.new ≡ record envelope.old { headers = with_headers envelope.old.headers (contents name.now time.now) }) }
+    ensures { OnOk result (envelope.new ≡ with_all envelope.old (contents name.now time.now)) }
 {
     set(alloc, envelope, CONTENT_TYPE, "application/json")?;
     set(alloc, envelope, ENCLOSED_MESSAGE_TYPES, name)?;
@@ -84,7 +84,8 @@ fn describe(alloc: Global, envelope: &mut Envelope, name: &str, time: &str) -> R
 /// The message with the headers that each outgoing message has.
 fn common(alloc: Global, incoming: &Envelope, made: &Made) -> Result<Envelope, NoMemory>
     requires { 0 < length made.now.id }
-    ensures { IfOk result (λ e. e ≡ record { headers = common incoming.now made.now; body = made.now.body }) }
+    ensures { IfOk result (λ e. e
+            ≡ record { headers = common incoming.now made.now; body = made.now.body }) }
 {
     let time = moment_text(alloc, made.moment)?;
     let body = made.body.copy()?;
@@ -107,7 +108,7 @@ fn name_sender(
     envelope: &mut Envelope,
     saga: &Option<SagaName>,
 ) -> Result<(), NoMemory>
-    ensures { OnOk result (envelope.new ≡ record envelope.old { headers = with_headers envelope.old.headers (from_saga saga.now) }) }
+    ensures { OnOk result (envelope.new ≡ with_all envelope.old (from_saga saga.now)) }
 {
     match saga {
         Some(saga) => {
@@ -125,7 +126,7 @@ fn name_addressee(
     saga: &str,
     id: &str,
 ) -> Result<(), NoMemory>
-    ensures { OnOk result (envelope.new ≡ record envelope.old { headers = with_headers envelope.old.headers (to_saga saga.now id.now) }) }
+    ensures { OnOk result (envelope.new ≡ with_all envelope.old (to_saga saga.now id.now)) }
 {
     set(alloc, envelope, SAGA_ID, id)?;
     set(alloc, envelope, SAGA_TYPE, saga)
@@ -138,7 +139,9 @@ fn name_both(
     saga: Option<&Text>,
     id: Option<&Text>,
 ) -> Result<(), NoMemory>
-    ensures { OnOk result (envelope.new ≡ record envelope.old { headers = with_headers envelope.old.headers (to_saga_of (option_copied saga.entry) (option_copied id.entry)) }) }
+    ensures { OnOk result (envelope.new
+            ≡ with_all envelope.old
+            (to_saga_of (option_copied saga.entry) (option_copied id.entry))) }
 {
     match (saga, id) {
         (Some(saga), Some(id)) => name_addressee(alloc, envelope, saga.as_str(), id.as_str()),
@@ -152,7 +155,7 @@ fn answer_sender(
     envelope: &mut Envelope,
     incoming: &Envelope,
 ) -> Result<(), NoMemory>
-    ensures { OnOk result (envelope.new ≡ record envelope.old { headers = with_headers envelope.old.headers (to_sender incoming.now) }) }
+    ensures { OnOk result (envelope.new ≡ with_all envelope.old (to_sender incoming.now)) }
 {
     let saga = incoming.header(ORIGINATING_SAGA_TYPE);
     let id = incoming.header(ORIGINATING_SAGA_ID);
@@ -161,7 +164,8 @@ fn answer_sender(
 
 /// Marks a timeout, and names the saga that asked for it.
 fn mark_timeout(alloc: Global, envelope: &mut Envelope, saga: &SagaName) -> Result<(), NoMemory>
-    ensures { OnOk result (envelope.new ≡ record envelope.old { headers = with_headers envelope.old.headers (timeout_mark Target.Timeout ++ to_own (Some saga.now)) }) }
+    ensures { OnOk result (envelope.new
+            ≡ with_all envelope.old (timeout_mark Target.Timeout ++ to_own (Some saga.now))) }
 {
     set(alloc, envelope, IS_SAGA_TIMEOUT_MESSAGE, "True")?;
     name_addressee(alloc, envelope, saga.saga.as_str(), saga.id.as_str())
@@ -175,7 +179,10 @@ fn address(
     made: &Made,
 ) -> Result<(), NoMemory>
     requires { made.now.target ≡ Target.Timeout → IsSome made.now.saga }
-    ensures { OnOk result (envelope.new ≡ record envelope.old { headers = with_headers envelope.old.headers (timeout_mark made.now.target ++ addressee incoming.now made.now.target made.now.saga) }) }
+    ensures { OnOk result (envelope.new
+            ≡ with_all envelope.old
+            (timeout_mark made.now.target
+                ++ addressee incoming.now made.now.target made.now.saga)) }
 {
     match (&made.target, &made.saga) {
         (Target::Timeout, Some(saga)) => mark_timeout(alloc, envelope, saga),

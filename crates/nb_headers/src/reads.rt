@@ -47,6 +47,13 @@ fn before_comma(entry: &str) -> &[u8]
     }
 }
 
+/// The name of a type: what stands before the first comma, without the spaces (U+0020 alone) round it.
+pub fn type_name(entry: &str) -> &[u8]
+    ensures { result.now ≡ type_name entry.now }
+{
+    trimmed_end(trimmed_start(before_comma(entry)))
+}
+
 /// The position at which a name is declared.
 fn declared_at(name: &[u8], declared: &Names) -> Option<usize>
     ensures place { result ≡ position (bytes_eq name.now) declared.now }
@@ -63,8 +70,7 @@ fn place_of(entry: &str, declared: &Names) -> Option<u32>
     ensures { result ≡ position (bytes_eq (type_name entry.now)) declared.now }
 {
     let _count = declared.len();
-    let name = trimmed_end(trimmed_start(before_comma(entry)));
-    let place = declared_at(name, declared)?;
+    let place = declared_at(type_name(entry), declared)?;
     Some(place as u32)
 }
 

@@ -13,7 +13,9 @@ pub(crate) fn set(
     text: &str,
 ) -> Result<(), NoMemory>
     requires { name.now ≢ id_name }
-    ensures { OnOk result (envelope.new ≡ record envelope.old { headers = with_header envelope.old.headers name.now text.now }) }
+    ensures { OnOk result (envelope.new
+            ≡ record envelope.old { headers = with_header envelope.old.headers name.now text.now
+                }) }
 {
     let text = Text::new(alloc, text)?;
     envelope.set_header(alloc, name, text)
