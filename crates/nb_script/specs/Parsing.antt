@@ -8,16 +8,13 @@ use Rattle.nb_script.specs.declared.lexer.LexFault.TheVariants as bad
 use Rattle.nb_script.specs.declared.lexeme.Lexeme.{Lexeme}
 use Rattle.nb_script.specs.declared.fault.Fault.{Fault}
 use Rattle.nb_script.specs.declared.fault.Fault.TheVariants as fault
+use Rattle.nb_script.specs.declared.script.TheConstants.{MOST_BYTES}
 use Rattle.nb_script.specs.declared.script.ScriptFault.{ScriptFault}
 use Rattle.nb_script.specs.declared.script.ScriptKind.{ScriptKind}
 use Rattle.nb_script.specs.declared.script.ScriptKind.TheVariants as k
 use Rattle.nb_script.specs.Grammar.{ItemTerm}
 use Rattle.nb_script.specs.Lexing.{line_of, column_of, lexed, lexemes_of}
 use Rattle.nb_script.specs.Answer.{Starts, IsFirstPlace, Spells}
-
--- the text's limit
-abbrev pub most_bytes : ℕ
-most_bytes = 1048576
 
 -- The fault stands at this byte of the text.
 pub record StandsAt (text : List ℕ) (at : ℕ) (f : ScriptFault) : Type 0 where
@@ -26,7 +23,7 @@ pub record StandsAt (text : List ℕ) (at : ℕ) (f : ScriptFault) : Type 0 wher
 
 -- The text isn't too long, and is UTF-8.
 pub record IsText (text : List ℕ) : Type 0 where
-  pub short : length text ≤ most_bytes
+  pub short : length text ≤ MOST_BYTES
   pub utf8 : IsUtf8 text
 
 -- The tokens of the text are those of the script.
@@ -36,13 +33,13 @@ pub record IsScriptText (text : List ℕ) (s : List ItemTerm) : Type 0 where
   pub spells : Spells (lexemes_of text) s
 
 pub record IsTooLong (text : List ℕ) (f : ScriptFault) : Type 0 where
-  pub long : most_bytes < length text
+  pub long : MOST_BYTES < length text
   pub line : f.line ≡ 1
   pub column : f.column ≡ 1
 
 -- It isn't UTF-8 from this byte on.
 pub record IsNotUtf8 (text : List ℕ) (f : ScriptFault) : Type 0 where
-  pub short : length text ≤ most_bytes
+  pub short : length text ≤ MOST_BYTES
   pub broken : IsUtf8 text → ⊥
   pub at : ℕ
   pub valid : IsValidUpTo text at

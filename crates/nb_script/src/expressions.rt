@@ -140,7 +140,8 @@ impl Parser<'_> {
 
     // The word in front of an argument.
     fn function_word(&self, function: Function, at: usize) -> Result<(u32, usize), Halt>
-        ensures { Gives (λ x. x) result (read.key (function_key function) (slice_get self.now.lexemes.now) at) }
+        ensures { Gives (λ x. x) result
+            (read.key (function_key function) (slice_get self.now.lexemes.now) at) }
     {
         self.key(function.keyword(), at)
     }
@@ -148,7 +149,8 @@ impl Parser<'_> {
     // A word that stands for a value.
     #[tactic(auto, unfolding(crate::specs::Reading::constant_word))]
     fn constant(&self, constant: Constant, at: usize) -> Result<(Expr, usize), Halt>
-        ensures value { Gives (λ x. (tree x.0, x.1)) result (read.constant_word constant (slice_get self.now.lexemes.now) at) }
+        ensures value { Gives (λ x. (tree x.0, x.1)) result
+            (read.constant_word constant (slice_get self.now.lexemes.now) at) }
         ensures none { IfOk result (λ x. operators (tree x.0) ≡ 0) }
     {
         let (place, next) = self.key(constant.keyword(), at)?;
@@ -162,7 +164,8 @@ impl Parser<'_> {
     // A field of the message or of the saga.
     #[tactic(auto, unfolding(crate::specs::Reading::holder_field))]
     fn holder_field(&self, holder: Holder, at: usize) -> Result<(Expr, usize), Halt>
-        ensures value { Gives (λ x. (tree x.0, x.1)) result (read.holder_field holder (slice_get self.now.lexemes.now) at) }
+        ensures value { Gives (λ x. (tree x.0, x.1)) result
+            (read.holder_field holder (slice_get self.now.lexemes.now) at) }
         ensures none { IfOk result (λ x. operators (tree x.0) ≡ 0) }
     {
         let (place, next) = self.key(holder.keyword(), at)?;
@@ -181,7 +184,8 @@ impl Parser<'_> {
     #[cycle(expr)]
     #[tactic(auto, unfolding(crate::specs::Reading::operand_in))]
     fn operand(&self, room: u32, left: u32, at: usize) -> Result<(Counted, usize), Halt>
-        ensures value { Gives (λ x. (tree x.0.expr, x.1)) result (read.operand room left (slice_get self.now.lexemes.now) at) }
+        ensures value { Gives (λ x. (tree x.0.expr, x.1)) result
+            (read.operand room left (slice_get self.now.lexemes.now) at) }
         ensures count { IfOk result (λ x. x.0.left ≡ left - operators (tree x.0.expr)) }
     {
         match self.seen(at) {
@@ -217,7 +221,9 @@ impl Parser<'_> {
         keyword: Keyword,
         at: usize,
     ) -> Result<(Counted, usize), Halt>
-        ensures value { Gives (λ x. (tree x.0.expr, x.1)) result (read.keyed (is_zero room) (read.deeper room) left keyword (slice_get self.now.lexemes.now) at) }
+        ensures value { Gives (λ x. (tree x.0.expr, x.1)) result
+            (read.keyed (is_zero room) (read.deeper room) left keyword
+                (slice_get self.now.lexemes.now) at) }
         ensures count { IfOk result (λ x. x.0.left ≡ left - operators (tree x.0.expr)) }
     {
         let (expr, next) = match keyword {
@@ -243,7 +249,8 @@ impl Parser<'_> {
     #[tactic(auto, unfolding(crate::specs::Reading::deeper))]
     fn inner(&self, room: u32, left: u32, at: usize) -> Result<(Counted, usize), Halt>
         requires { 0 < room }
-        ensures value { Gives (λ x. (tree x.0.expr, x.1)) result ((read.deeper room).inner left (slice_get self.now.lexemes.now) at) }
+        ensures value { Gives (λ x. (tree x.0.expr, x.1)) result
+            ((read.deeper room).inner left (slice_get self.now.lexemes.now) at) }
         ensures count { IfOk result (λ x. x.0.left ≡ left - operators (tree x.0.expr)) }
     {
         self.climb(5, room - 1, left, at)
@@ -254,7 +261,8 @@ impl Parser<'_> {
     #[tactic(auto, unfolding(crate::specs::Reading::deeper))]
     fn inner_operand(&self, room: u32, left: u32, at: usize) -> Result<(Counted, usize), Halt>
         requires { 0 < room }
-        ensures value { Gives (λ x. (tree x.0.expr, x.1)) result ((read.deeper room).operand left (slice_get self.now.lexemes.now) at) }
+        ensures value { Gives (λ x. (tree x.0.expr, x.1)) result
+            ((read.deeper room).operand left (slice_get self.now.lexemes.now) at) }
         ensures count { IfOk result (λ x. x.0.left ≡ left - operators (tree x.0.expr)) }
     {
         self.operand(room - 1, left, at)
@@ -262,7 +270,9 @@ impl Parser<'_> {
 
     #[cycle(expr)]
     fn parens(&self, room: u32, left: u32, at: usize) -> Result<(Counted, usize), Halt>
-        ensures value { Gives (λ x. (tree x.0.expr, x.1)) result (read.parens (is_zero room) (read.deeper room) left (slice_get self.now.lexemes.now) at) }
+        ensures value { Gives (λ x. (tree x.0.expr, x.1)) result
+            (read.parens (is_zero room) (read.deeper room) left
+                (slice_get self.now.lexemes.now) at) }
         ensures count { IfOk result (λ x. x.0.left ≡ left - operators (tree x.0.expr)) }
     {
         let (open_at, next) = self.take_symbol(is_zero(room), Symbol::Open, at)?;
@@ -279,7 +289,9 @@ impl Parser<'_> {
 
     #[cycle(expr)]
     fn signed(&self, room: u32, left: u32, op: Unary, at: usize) -> Result<(Counted, usize), Halt>
-        ensures value { Gives (λ x. (tree x.0.expr, x.1)) result (read.signed (is_zero room) (read.deeper room) left op (slice_get self.now.lexemes.now) at) }
+        ensures value { Gives (λ x. (tree x.0.expr, x.1)) result
+            (read.signed (is_zero room) (read.deeper room) left op
+                (slice_get self.now.lexemes.now) at) }
         ensures count { IfOk result (λ x. x.0.left ≡ left - operators (tree x.0.expr)) }
     {
         let past = is_zero(room) || is_zero(left);
@@ -303,7 +315,9 @@ impl Parser<'_> {
         function: Function,
         at: usize,
     ) -> Result<(Counted, usize), Halt>
-        ensures value { Gives (λ x. (tree x.0.expr, x.1)) result (read.call (is_zero room) (read.deeper room) left function (slice_get self.now.lexemes.now) at) }
+        ensures value { Gives (λ x. (tree x.0.expr, x.1)) result
+            (read.call (is_zero room) (read.deeper room) left function
+                (slice_get self.now.lexemes.now) at) }
         ensures count { IfOk result (λ x. x.0.left ≡ left - operators (tree x.0.expr)) }
     {
         let (place, next) = self.function_word(function, at)?;
@@ -320,7 +334,9 @@ impl Parser<'_> {
         place: u32,
         at: usize,
     ) -> Result<(Counted, usize), Halt>
-        ensures value { Gives (λ x. (tree x.0.expr, x.1)) result (read.argument (is_zero room) (read.deeper room) left function place (slice_get self.now.lexemes.now) at) }
+        ensures value { Gives (λ x. (tree x.0.expr, x.1)) result
+            (read.argument (is_zero room) (read.deeper room) left function place
+                (slice_get self.now.lexemes.now) at) }
         ensures count { IfOk result (λ x. x.0.left ≡ left - operators (tree x.0.expr)) }
     {
         let (open_at, next) = self.take_symbol(is_zero(room), Symbol::Open, at)?;
@@ -342,7 +358,8 @@ impl Parser<'_> {
     #[tactic(auto, unfolding(crate::specs::Reading::climb))]
     fn climb(&self, level: u32, room: u32, left: u32, at: usize) -> Result<(Counted, usize), Halt>
         requires { level ≤ 5 }
-        ensures value { Gives (λ x. (tree x.0.expr, x.1)) result (read.climb level (read.operand room) left (slice_get self.now.lexemes.now) at) }
+        ensures value { Gives (λ x. (tree x.0.expr, x.1)) result
+            (read.climb level (read.operand room) left (slice_get self.now.lexemes.now) at) }
         ensures count { IfOk result (λ x. x.0.left ≡ left - operators (tree x.0.expr)) }
     {
         if level == 0 {
@@ -359,7 +376,8 @@ impl Parser<'_> {
     #[cycle(expr)]
     #[tactic(auto, unfolding(crate::specs::Reading::climb, crate::specs::Reading::once))]
     fn comparison(&self, room: u32, left: u32, at: usize) -> Result<(Counted, usize), Halt>
-        ensures value { Gives (λ x. (tree x.0.expr, x.1)) result (read.climb 3 (read.operand room) left (slice_get self.now.lexemes.now) at) }
+        ensures value { Gives (λ x. (tree x.0.expr, x.1)) result
+            (read.climb 3 (read.operand room) left (slice_get self.now.lexemes.now) at) }
         ensures count { IfOk result (λ x. x.0.left ≡ left - operators (tree x.0.expr)) }
     {
         let (first, next) = self.climb(2, room, left, at)?;
@@ -380,8 +398,11 @@ impl Parser<'_> {
         at: usize,
     ) -> Result<(Counted, usize), Halt>
         requires { below ≤ 4 }
-        ensures value { Gives (λ x. (tree x.0.expr, x.1)) result (read.joined first.left (read.climb below (read.operand room)) (tree first.expr) op (slice_get self.now.lexemes.now) at) }
-        ensures count { IfOk result (λ x. x.0.left ≡ first.left - (operators (tree x.0.expr) - operators (tree first.expr))) }
+        ensures value { Gives (λ x. (tree x.0.expr, x.1)) result
+            (read.joined first.left (read.climb below (read.operand room)) (tree first.expr) op
+                (slice_get self.now.lexemes.now) at) }
+        ensures count { IfOk result (λ x. x.0.left
+                ≡ first.left - (operators (tree x.0.expr) - operators (tree first.expr))) }
         ensures more { IfOk result (λ x. operators (tree first.expr) < operators (tree x.0.expr)) }
     {
         let past = is_zero(first.left);
@@ -410,7 +431,9 @@ impl Parser<'_> {
         requires low { 0 < level }
         requires high { level ≤ 5 }
         requires count { first.left ≡ left - operators (tree first.expr) }
-        ensures value { Gives (λ x. (tree x.0.expr, x.1)) result (read.chain (suc left) level (read.climb (level - 1) (read.operand room)) left (tree first.expr) (slice_get self.now.lexemes.now) at) }
+        ensures value { Gives (λ x. (tree x.0.expr, x.1)) result
+            (read.chain (suc left) level (read.climb (level - 1) (read.operand room)) left
+                (tree first.expr) (slice_get self.now.lexemes.now) at) }
         ensures count { IfOk result (λ x. x.0.left ≡ left - operators (tree x.0.expr)) }
     {
         let mut so_far = first;
@@ -429,7 +452,8 @@ impl Parser<'_> {
     /// The expression at a token, with room for so many levels, and the number of the token after it.
     #[tactic(auto, unfolding(crate::specs::Reading::expr))]
     pub fn expr(&self, room: u32, at: usize) -> Result<(Expr, usize), Halt>
-        ensures { Gives (λ x. (tree x.0, x.1)) result (read.expr room (slice_get self.now.lexemes.now) at) }
+        ensures { Gives (λ x. (tree x.0, x.1)) result
+            (read.expr room (slice_get self.now.lexemes.now) at) }
     {
         let (counted, next) = self.climb(5, room, OPERATORS, at)?;
         Ok((counted.expr, next))

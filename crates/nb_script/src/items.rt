@@ -123,7 +123,9 @@ impl Parser<'_> {
 
     // The fields of a message.
     fn message_fields(&self, at: usize) -> Result<(Items<MessageField>, usize), Halt>
-        ensures { Gives (λ x. x) result (step.many (suc (length self.now.lexemes.now)) step.closes message_field_goes_on read.message_field (slice_get self.now.lexemes.now) at) }
+        ensures { Gives (λ x. x) result
+            (step.many (suc (length self.now.lexemes.now)) step.closes message_field_goes_on
+                read.message_field (slice_get self.now.lexemes.now) at) }
     {
         let mut fields = Items::new(self.alloc);
         let mut here = at;
@@ -144,7 +146,8 @@ impl Parser<'_> {
 
     #[tactic(auto, unfolding(crate::specs::ReadingScript::negative_literal))]
     fn negative_literal(&self, at: usize) -> Result<(Literal, usize), Halt>
-        ensures { Gives (λ x. x) result (read.negative_literal (slice_get self.now.lexemes.now) at) }
+        ensures { Gives (λ x. x) result
+            (read.negative_literal (slice_get self.now.lexemes.now) at) }
     {
         let (minus_at, next) = self.symbol(Symbol::Minus, at)?;
         let ((at, number), next) = self.number(next)?;
@@ -157,7 +160,8 @@ impl Parser<'_> {
     }
 
     fn truth_literal(&self, value: bool, at: usize) -> Result<(Literal, usize), Halt>
-        ensures { Gives (λ x. x) result (read.truth_literal value (slice_get self.now.lexemes.now) at) }
+        ensures { Gives (λ x. x) result
+            (read.truth_literal value (slice_get self.now.lexemes.now) at) }
     {
         let (at, next) = self.key(truth_keyword(value), at)?;
         Ok((Literal::Truth { at, value }, next))
@@ -233,7 +237,9 @@ impl Parser<'_> {
 
     // The fields of a saga.
     fn saga_fields(&self, at: usize) -> Result<(Items<SagaField>, usize), Halt>
-        ensures { Gives (λ x. x) result (step.many (suc (length self.now.lexemes.now)) step.closes saga_field_goes_on read.saga_field (slice_get self.now.lexemes.now) at) }
+        ensures { Gives (λ x. x) result
+            (step.many (suc (length self.now.lexemes.now)) step.closes saga_field_goes_on
+                read.saga_field (slice_get self.now.lexemes.now) at) }
     {
         let mut fields = Items::new(self.alloc);
         let mut here = at;
@@ -277,20 +283,25 @@ impl Parser<'_> {
     }
 
     fn finder_word(&self, finder: Finder, at: usize) -> Result<(u32, usize), Halt>
-        ensures { Gives (λ x. x) result (step.key (finder_key finder) (slice_get self.now.lexemes.now) at) }
+        ensures { Gives (λ x. x) result
+            (step.key (finder_key finder) (slice_get self.now.lexemes.now) at) }
     {
         self.key(finder.keyword(), at)
     }
 
     fn answer_word(&self, answer: Answer, at: usize) -> Result<(u32, usize), Halt>
-        ensures { Gives (λ x. x) result (step.key (answer_key answer) (slice_get self.now.lexemes.now) at) }
+        ensures { Gives (λ x. x) result
+            (step.key (answer_key answer) (slice_get self.now.lexemes.now) at) }
     {
         self.key(answer.keyword(), at)
     }
 
     #[tactic(auto, unfolding(crate::specs::ReadingScript::by_field))]
     fn by_field(&self, room: u32, finder: Finder, at: usize) -> Result<(Part, usize), Halt>
-        ensures { Gives (λ x. (part x.0, x.1)) result (read.by_field (suc (length self.now.lexemes.now)) room (read.inside (suc (length self.now.lexemes.now)) room) finder (slice_get self.now.lexemes.now) at) }
+        ensures { Gives (λ x. (part x.0, x.1)) result
+            (read.by_field (suc (length self.now.lexemes.now)) room
+                (read.inside (suc (length self.now.lexemes.now)) room) finder
+                (slice_get self.now.lexemes.now) at) }
     {
         let (at, next) = self.finder_word(finder, at)?;
         let (name, next) = self.type_name(next)?;
@@ -311,7 +322,10 @@ impl Parser<'_> {
 
     #[tactic(auto, unfolding(crate::specs::ReadingScript::by_id))]
     fn by_id(&self, room: u32, answer: Answer, at: usize) -> Result<(Part, usize), Halt>
-        ensures { Gives (λ x. (part x.0, x.1)) result (read.by_id (suc (length self.now.lexemes.now)) room (read.inside (suc (length self.now.lexemes.now)) room) answer (slice_get self.now.lexemes.now) at) }
+        ensures { Gives (λ x. (part x.0, x.1)) result
+            (read.by_id (suc (length self.now.lexemes.now)) room
+                (read.inside (suc (length self.now.lexemes.now)) room) answer
+                (slice_get self.now.lexemes.now) at) }
     {
         let (at, next) = self.answer_word(answer, at)?;
         let (name, next) = self.type_name(next)?;
@@ -327,7 +341,10 @@ impl Parser<'_> {
 
     #[tactic(auto, unfolding(crate::specs::ReadingScript::part))]
     fn part(&self, room: u32, at: usize) -> Result<(Part, usize), Halt>
-        ensures { Gives (λ x. (part x.0, x.1)) result (read.part (suc (length self.now.lexemes.now)) room (read.inside (suc (length self.now.lexemes.now)) room) (slice_get self.now.lexemes.now) at) }
+        ensures { Gives (λ x. (part x.0, x.1)) result
+            (read.part (suc (length self.now.lexemes.now)) room
+                (read.inside (suc (length self.now.lexemes.now)) room)
+                (slice_get self.now.lexemes.now) at) }
     {
         match self.seen(at) {
             Seen::Key(Keyword::Start) => self.by_field(room, Finder::Start, at),
@@ -340,7 +357,11 @@ impl Parser<'_> {
 
     // The parts of a saga.
     fn parts(&self, room: u32, at: usize) -> Result<(Items<Part>, usize), Halt>
-        ensures { Gives (λ x. (map part x.0, x.1)) result (step.many (suc (length self.now.lexemes.now)) step.closes step.always (read.part (suc (length self.now.lexemes.now)) room (read.inside (suc (length self.now.lexemes.now)) room)) (slice_get self.now.lexemes.now) at) }
+        ensures { Gives (λ x. (map part x.0, x.1)) result
+            (step.many (suc (length self.now.lexemes.now)) step.closes step.always
+                (read.part (suc (length self.now.lexemes.now)) room
+                    (read.inside (suc (length self.now.lexemes.now)) room))
+                (slice_get self.now.lexemes.now) at) }
     {
         let mut parts = Items::new(self.alloc);
         let mut here = at;
@@ -357,7 +378,8 @@ impl Parser<'_> {
 
     #[tactic(auto, unfolding(crate::specs::ReadingScript::message))]
     fn message(&self, at: usize) -> Result<(Item, usize), Halt>
-        ensures { Gives (λ x. (item x.0, x.1)) result (read.message (suc (length self.now.lexemes.now)) (slice_get self.now.lexemes.now) at) }
+        ensures { Gives (λ x. (item x.0, x.1)) result
+            (read.message (suc (length self.now.lexemes.now)) (slice_get self.now.lexemes.now) at) }
     {
         let (at, next) = self.key(Keyword::Message, at)?;
         let (name, next) = self.type_name(next)?;
@@ -376,7 +398,10 @@ impl Parser<'_> {
 
     #[tactic(auto, unfolding(crate::specs::ReadingScript::handler))]
     fn handler(&self, room: u32, at: usize) -> Result<(Item, usize), Halt>
-        ensures { Gives (λ x. (item x.0, x.1)) result (read.handler (suc (length self.now.lexemes.now)) room (read.inside (suc (length self.now.lexemes.now)) room) (slice_get self.now.lexemes.now) at) }
+        ensures { Gives (λ x. (item x.0, x.1)) result
+            (read.handler (suc (length self.now.lexemes.now)) room
+                (read.inside (suc (length self.now.lexemes.now)) room)
+                (slice_get self.now.lexemes.now) at) }
     {
         let (at, next) = self.key(Keyword::Handler, at)?;
         let (name, next) = self.type_name(next)?;
@@ -386,7 +411,8 @@ impl Parser<'_> {
 
     #[tactic(auto, unfolding(crate::specs::ReadingScript::head))]
     fn head(&self, at: usize) -> Result<(Head, usize), Halt>
-        ensures { Gives (λ x. (head_of x.0, x.1)) result (read.head (slice_get self.now.lexemes.now) at) }
+        ensures { Gives (λ x. (head_of x.0, x.1)) result
+            (read.head (slice_get self.now.lexemes.now) at) }
     {
         let (at, next) = self.key(Keyword::Saga, at)?;
         let ((name_at, name), next) = self.name(next)?;
@@ -412,7 +438,10 @@ impl Parser<'_> {
 
     #[tactic(auto, unfolding(crate::specs::ReadingScript::saga))]
     fn saga(&self, room: u32, at: usize) -> Result<(Item, usize), Halt>
-        ensures { Gives (λ x. (item x.0, x.1)) result (read.saga (suc (length self.now.lexemes.now)) room (read.inside (suc (length self.now.lexemes.now)) room) (slice_get self.now.lexemes.now) at) }
+        ensures { Gives (λ x. (item x.0, x.1)) result
+            (read.saga (suc (length self.now.lexemes.now)) room
+                (read.inside (suc (length self.now.lexemes.now)) room)
+                (slice_get self.now.lexemes.now) at) }
     {
         let (head, next) = self.head(at)?;
         let (fields, next) = self.saga_fields(next)?;
@@ -439,7 +468,10 @@ impl Parser<'_> {
 
     #[tactic(auto, unfolding(crate::specs::ReadingScript::item))]
     fn item(&self, room: u32, at: usize) -> Result<(Item, usize), Halt>
-        ensures { Gives (λ x. (item x.0, x.1)) result (read.item (suc (length self.now.lexemes.now)) room (read.inside (suc (length self.now.lexemes.now)) room) (slice_get self.now.lexemes.now) at) }
+        ensures { Gives (λ x. (item x.0, x.1)) result
+            (read.item (suc (length self.now.lexemes.now)) room
+                (read.inside (suc (length self.now.lexemes.now)) room)
+                (slice_get self.now.lexemes.now) at) }
     {
         match self.seen(at) {
             Seen::Key(Keyword::Message) => self.message(at),
@@ -457,7 +489,11 @@ impl Parser<'_> {
 
     // The items of a script.
     fn items(&self, room: u32, at: usize) -> Result<(Items<Item>, usize), Halt>
-        ensures { Gives (λ x. (map item x.0, x.1)) result (step.many (suc (length self.now.lexemes.now)) read.is_end step.always (read.item (suc (length self.now.lexemes.now)) room (read.inside (suc (length self.now.lexemes.now)) room)) (slice_get self.now.lexemes.now) at) }
+        ensures { Gives (λ x. (map item x.0, x.1)) result
+            (step.many (suc (length self.now.lexemes.now)) read.is_end step.always
+                (read.item (suc (length self.now.lexemes.now)) room
+                    (read.inside (suc (length self.now.lexemes.now)) room))
+                (slice_get self.now.lexemes.now) at) }
     {
         let mut items = Items::new(self.alloc);
         let mut here = at;
@@ -475,7 +511,9 @@ impl Parser<'_> {
     /// All items, and nothing behind them, with room for so many levels.
     #[tactic(auto, unfolding(crate::specs::ReadingScript::whole))]
     pub fn whole(&self, room: u32) -> Result<(Items<Item>, usize), Halt>
-        ensures { Gives (λ x. (map item x.0, x.1)) result (read.whole (suc (length self.now.lexemes.now)) room (slice_get self.now.lexemes.now) 0) }
+        ensures { Gives (λ x. (map item x.0, x.1)) result
+            (read.whole (suc (length self.now.lexemes.now)) room
+                (slice_get self.now.lexemes.now) 0) }
     {
         let (items, next) = self.items(room, 0)?;
         if self.ends(next) {

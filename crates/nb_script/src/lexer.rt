@@ -1,10 +1,10 @@
 //! Tokens: words, numbers, texts and symbols, with blanks and comments between them.
 ghost use Rattle.std.specs.Prelude.{◌≡◌, ◌+◌, ◌≤◌, ◌<◌, ◌^◌, ◌==◌, not, length, drop, take_while, IfSome, IfOk};
+ghost use Rattle.nb_script.specs.declared.script.TheConstants.{MOST_BYTES};
 ghost use Rattle.nb_script.specs.Lexing.{is_letter, is_digit, is_word, is_blank, is_escape, inside_len, text_len, number_of, symbol_len, piece, piece_len, lexed};
 ghost use Rattle.nb_script.specs.Lexing as spec;
 
-use nb_base::NoMemory;
-use sqlite_items::Items;
+use nb_base::{Copied, Items, NoMemory};
 use std::alloc::Global;
 
 /// What a token is.
@@ -26,6 +26,15 @@ pub struct Token {
     pub from: u32,
     pub to: u32,
 }
+
+impl Copied for Token {
+    fn copy(&self) -> Result<Token, NoMemory> {
+        Ok(*self)
+    }
+}
+
+/// Tokens in the order of a text.
+pub type Tokens = Items<Token>;
 
 /// Why no token can be read.
 #[derive(Clone, Copy, Debug, PartialEq, Eq)]
@@ -59,7 +68,7 @@ pub enum Tail {
 /// The tokens of a text up to where none can be read.
 #[derive(Debug, Drop)]
 pub struct Scanned {
-    pub tokens: Items<Token>,
+    pub tokens: Tokens,
     pub tail: Tail,
 }
 
@@ -175,7 +184,8 @@ pub fn number_of(digits: &[u8]) -> Option<u64>
 
 // A number in front.
 fn number_piece(bytes: &[u8]) -> Piece
-    ensures value { result ≡ spec.number_piece (length (take_while is_digit bytes.now)) (number_of (take_while is_digit bytes.now)) }
+    ensures value { result ≡ spec.number_piece (length (take_while is_digit bytes.now))
+        (number_of (take_while is_digit bytes.now)) }
     ensures bound { piece_len result ≤ length bytes.now }
 {
     let len = number_len(bytes);
@@ -241,7 +251,7 @@ pub fn front_of(bytes: &[u8]) -> Piece
 
 /// The tokens of a text, up to where none can be read.
 pub fn scan(alloc: Global, text: &[u8]) -> Result<Scanned, NoMemory>
-    requires { length text.now ≤ 1048576 }
+    requires { length text.now ≤ MOST_BYTES }
     ensures { IfOk result (λ s. s ≡ lexed text.now) }
 {
     let mut tokens = Items::new(alloc);

@@ -1,29 +1,29 @@
 //! Scripts: their tokens, their trees, the parser and the printer.
 #![tactic(auto)]
 
-pub mod blocks;
-pub mod content;
+mod blocks;
+mod content;
 pub mod expr;
-pub mod expressions;
-pub mod fault;
+mod expressions;
+mod fault;
 pub mod item;
-pub mod items;
-pub mod lexeme;
-pub mod lexer;
-pub mod line;
-pub mod line_expr;
-pub mod line_item;
-pub mod line_stmt;
-pub mod parser;
+mod items;
+mod lexeme;
+mod lexer;
+mod line;
+mod line_expr;
+mod line_item;
+mod line_stmt;
+mod parser;
 pub mod place;
-pub mod print_script;
-pub mod printer;
+mod print_script;
+mod printer;
 pub mod script;
-pub mod statements;
+mod statements;
 pub mod stmt;
 pub mod tree;
 
-pub use lexer::{Token, TokenKind};
+pub use lexer::{Token, TokenKind, Tokens};
 pub use place::Place;
 pub use print_script::print;
 pub use script::{ScriptFault, ScriptKind, parse, tokens};

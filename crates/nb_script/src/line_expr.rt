@@ -9,6 +9,9 @@ use crate::lexeme::Symbol;
 use crate::line::Line;
 use nb_base::NoMemory;
 
+/// The level of the operators that bind most loosely: up to it nothing needs parentheses.
+pub(crate) const LOOSEST: u32 = 5;
+
 impl Binary {
     /// How loosely the operator binds, from 1.
     pub fn level(self) -> u32
@@ -90,7 +93,7 @@ impl Line {
             } => {
                 self.key(function.keyword())?;
                 self.symbol(Symbol::Open)?;
-                self.expr(5, argument.get())?;
+                self.expr(LOOSEST, argument.get())?;
                 self.symbol(Symbol::Close)
             }
             Expr::Paren { inner, .. } => self.expr(within, inner.get()),
@@ -131,12 +134,13 @@ impl Line {
     {
         self.word(arg.name.as_str())?;
         self.symbol(Symbol::Colon)?;
-        self.expr(5, &arg.value)
+        self.expr(LOOSEST, &arg.value)
     }
 
     // Arguments, each behind a comma.
     fn more_args(&mut self, args: &[Arg]) -> Result<(), NoMemory>
-        ensures { OnOk result (self.new ≡ self.old ++ (spec.all_of (spec.behind_comma spec.arg) (map seen.arg args.now))) }
+        ensures { OnOk result (self.new
+                ≡ self.old ++ (spec.all_of (spec.behind_comma spec.arg) (map seen.arg args.now))) }
     {
         for arg in args {
             self.symbol(Symbol::Comma)?;
@@ -146,7 +150,8 @@ impl Line {
     }
 
     fn args(&mut self, args: &[Arg]) -> Result<(), NoMemory>
-        ensures { OnOk result (self.new ≡ self.old ++ (spec.listed spec.arg (map seen.arg args.now))) }
+        ensures { OnOk result (self.new
+                ≡ self.old ++ (spec.listed spec.arg (map seen.arg args.now))) }
     {
         match args {
             [] => Ok(()),

@@ -20,7 +20,8 @@ impl Line {
 
     // Fields of a message, each behind a comma.
     fn more_message_fields(&mut self, fields: &[MessageField]) -> Result<(), NoMemory>
-        ensures { OnOk result (self.new ≡ self.old ++ spec.all_of (spec.behind_comma spec.message_field) fields.now) }
+        ensures { OnOk result (self.new
+                ≡ self.old ++ spec.all_of (spec.behind_comma spec.message_field) fields.now) }
     {
         for field in fields {
             self.symbol(Symbol::Comma)?;
@@ -92,7 +93,8 @@ impl Line {
 
     // Fields of a saga, each behind a comma.
     fn more_saga_fields(&mut self, fields: &[SagaField]) -> Result<(), NoMemory>
-        ensures { OnOk result (self.new ≡ self.old ++ spec.all_of (spec.behind_comma spec.saga_field) fields.now) }
+        ensures { OnOk result (self.new
+                ≡ self.old ++ spec.all_of (spec.behind_comma spec.saga_field) fields.now) }
     {
         for field in fields {
             self.symbol(Symbol::Comma)?;
@@ -156,7 +158,8 @@ impl Line {
     }
 
     fn parts(&mut self, parts: &[Part]) -> Result<(), NoMemory>
-        ensures { OnOk result (self.new ≡ self.old ++ spec.all_of spec.part (map seen.part parts.now)) }
+        ensures { OnOk result (self.new
+                ≡ self.old ++ spec.all_of spec.part (map seen.part parts.now)) }
     {
         for part in parts {
             self.part(part)?;

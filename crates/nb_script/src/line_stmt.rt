@@ -6,6 +6,7 @@ ghost use Rattle.nb_script.specs.Printing as spec;
 use crate::expr::{Expr, Make};
 use crate::lexeme::{Keyword, Symbol};
 use crate::line::Line;
+use crate::line_expr::LOOSEST;
 use crate::stmt::{After, Block, Else, RowName, Stmt};
 use nb_base::NoMemory;
 
@@ -14,7 +15,7 @@ impl Line {
     fn ended(&mut self, value: &Expr) -> Result<(), NoMemory>
         ensures { OnOk result (self.new ≡ self.old ++ spec.ended (seen.tree value.now)) }
     {
-        self.expr(5, value)?;
+        self.expr(LOOSEST, value)?;
         self.symbol(Symbol::Semi)
     }
 
@@ -31,18 +32,19 @@ impl Line {
     {
         self.key(Keyword::Row)?;
         self.symbol(Symbol::Open)?;
-        self.expr(5, &row.name)?;
+        self.expr(LOOSEST, &row.name)?;
         self.symbol(Symbol::Close)
     }
 
     fn delay(&mut self, after: &Option<After>) -> Result<(), NoMemory>
-        ensures { OnOk result (self.new ≡ self.old ++ spec.delay (option_map seen.after after.now)) }
+        ensures { OnOk result (self.new
+                ≡ self.old ++ spec.delay (option_map seen.after after.now)) }
     {
         match after {
             None => Ok(()),
             Some(after) => {
                 self.key(Keyword::After)?;
-                self.expr(5, &after.delay)
+                self.expr(LOOSEST, &after.delay)
             }
         }
     }
@@ -58,7 +60,8 @@ impl Line {
 
     // A keyword, a word, and what it gets.
     fn assignment(&mut self, keyword: Keyword, name: &str, value: &Expr) -> Result<(), NoMemory>
-        ensures { OnOk result (self.new ≡ self.old ++ spec.assignment keyword name.now (seen.tree value.now)) }
+        ensures { OnOk result (self.new
+                ≡ self.old ++ spec.assignment keyword name.now (seen.tree value.now)) }
     {
         self.key(keyword)?;
         self.word(name)?;
@@ -116,7 +119,7 @@ impl Line {
             }
             Stmt::Timeout { delay, make, .. } => {
                 self.key(Keyword::Timeout)?;
-                self.expr(5, delay)?;
+                self.expr(LOOSEST, delay)?;
                 self.made(make)
             }
             Stmt::Complete { .. } => {
@@ -140,7 +143,7 @@ impl Line {
                 ..
             } => {
                 self.key(Keyword::If)?;
-                self.expr(5, test)?;
+                self.expr(LOOSEST, test)?;
                 self.block(block)?;
                 self.alternative(otherwise)
             }
@@ -162,7 +165,8 @@ impl Line {
     // What stands behind the block of an `if`.
     #[cycle(statement)]
     fn alternative(&mut self, otherwise: &Else) -> Result<(), NoMemory>
-        ensures { OnOk result (self.new ≡ self.old ++ spec.alternative (seen.otherwise otherwise.now)) }
+        ensures { OnOk result (self.new
+                ≡ self.old ++ spec.alternative (seen.otherwise otherwise.now)) }
     {
         match otherwise {
             Else::Nothing => Ok(()),
@@ -178,7 +182,7 @@ impl Line {
             } => {
                 self.key(Keyword::Else)?;
                 self.key(Keyword::If)?;
-                self.expr(5, test)?;
+                self.expr(LOOSEST, test)?;
                 self.block(block)?;
                 self.alternative(otherwise.get())
             }

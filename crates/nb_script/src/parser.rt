@@ -59,7 +59,8 @@ impl Parser<'_> {
     /// This symbol, which may be past the limits.
     #[tactic(auto, unfolding(crate::specs::Reading::take))]
     pub fn take_symbol(&self, past: bool, symbol: Symbol, at: usize) -> Result<(u32, usize), Halt>
-        ensures value { Gives (λ x. x) result (read.take past (read.want_symbol symbol) (slice_get self.now.lexemes.now) at) }
+        ensures value { Gives (λ x. x) result
+            (read.take past (read.want_symbol symbol) (slice_get self.now.lexemes.now) at) }
         ensures room { OnOk result (past ≡ false) }
     {
         let Some(lexeme) = self.lexemes.get(at) else {
@@ -74,7 +75,8 @@ impl Parser<'_> {
     /// This word, which may be past the limits.
     #[tactic(auto, unfolding(crate::specs::Reading::take))]
     pub fn take_word(&self, past: bool, word: &str, at: usize) -> Result<(u32, usize), Halt>
-        ensures value { Gives (λ x. x) result (read.take past (read.want_this word.now) (slice_get self.now.lexemes.now) at) }
+        ensures value { Gives (λ x. x) result
+            (read.take past (read.want_this word.now) (slice_get self.now.lexemes.now) at) }
         ensures room { OnOk result (past ≡ false) }
     {
         let Some(lexeme) = self.lexemes.get(at) else {

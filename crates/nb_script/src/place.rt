@@ -1,5 +1,6 @@
 //! Lines and columns.
 ghost use Rattle.std.specs.Prelude.{◌≡◌, ◌+◌, ◌≤◌, ◌==◌, not, length, take, take_while, reverse};
+ghost use Rattle.nb_script.specs.declared.script.TheConstants.{MOST_BYTES};
 ghost use Rattle.nb_script.specs.Lexing.{line_of, column_of};
 
 /// A place in a text. Lines and columns count from 1, a column counts bytes.
@@ -19,7 +20,7 @@ fn last_line_len(before: &[u8]) -> usize
 
 // The column of what stands behind these bytes.
 fn column(before: &[u8]) -> usize
-    requires { length before.now ≤ 1048576 }
+    requires { length before.now ≤ MOST_BYTES }
     ensures value { result ≡ column_of before.now }
     ensures bound { result ≤ length before.now + 1 }
 {
@@ -28,7 +29,7 @@ fn column(before: &[u8]) -> usize
 
 // The line of what stands behind these bytes.
 fn line(before: &[u8]) -> usize
-    requires { length before.now ≤ 1048576 }
+    requires { length before.now ≤ MOST_BYTES }
     ensures value { result ≡ line_of before.now }
     ensures bound { result ≤ length before.now + 1 }
 {
@@ -37,7 +38,7 @@ fn line(before: &[u8]) -> usize
 
 /// The line and the column of the byte of a text with this number, or of the text's end.
 pub fn place_of(text: &[u8], at: usize) -> Place
-    requires { length text.now ≤ 1048576 }
+    requires { length text.now ≤ MOST_BYTES }
     ensures line { result.line ≡ line_of (take at text.now) }
     ensures column { result.column ≡ column_of (take at text.now) }
 {

@@ -1,5 +1,6 @@
 //! Prints scripts.
 ghost use Rattle.std.specs.Prelude.{◌≡◌, ◌++◌, ◌∷◌, ◌≤◌, [], ℕ, length, IfOk, OnOk};
+ghost use Rattle.nb_script.specs.declared.script.TheConstants.{MOST_BYTES};
 ghost use Rattle.nb_script.specs.Tree as seen;
 ghost use Rattle.nb_script.specs.Printing.{printed};
 ghost use Rattle.nb_script.specs.Respelling.{IsRespelled};
@@ -41,7 +42,8 @@ impl Printer {
 pub fn print(alloc: Global, script: &Script) -> Result<Text, NoMemory>
     ensures text { IfOk result (λ t. t ≡ printed (items_of script.now)) }
     ensures tokens { (f : ℕ → ℕ) → ∥ IsRespelled f (items_of script.now) ∥₁ }
-    ensures back { IfOk result (λ t. length t ≤ 1048576 → ∥ IsReadBack t (items_of script.now) ∥₁) }
+    ensures back { IfOk result (λ t. length t ≤ MOST_BYTES
+            → ∥ IsReadBack t (items_of script.now) ∥₁) }
 {
     let mut printer = Printer::new(alloc);
     printer.items(alloc, script.items())?;

@@ -1,5 +1,6 @@
 //! Scripts: their tokens, and their trees.
 ghost use Rattle.std.specs.Prelude.{◌≡◌, ◌≤◌, length, slice_get, option_map, IfOk, IfErr};
+ghost use Rattle.nb_script.specs.declared.script.TheConstants.{MOST_BYTES};
 ghost use Rattle.nb_script.specs.Lexing.{lexed, lexemes_of};
 ghost use Rattle.nb_script.specs.Answer.{IsFirstPlace};
 ghost use Rattle.nb_script.specs.Scripts.{items_of, text_of};
@@ -9,12 +10,11 @@ ghost use Rattle.nb_script.specs.Parsing.{StandsAt, IsText, IsScriptText, IsFaul
 use crate::content::lexemes;
 use crate::fault::{Fault, Halt};
 use crate::lexeme::Lexeme;
-use crate::lexer::{LexFault, Tail, Token, scan};
+use crate::lexer::{LexFault, Tail, Tokens, scan};
 use crate::parser::Parser;
 use crate::place::place_of;
 use crate::tree::Script;
 use nb_base::{NoMemory, Text};
-use sqlite_items::Items;
 use std::alloc::Global;
 use thiserror::Error;
 
@@ -72,7 +72,7 @@ impl From<NoMemory> for ScriptFault {
 
 // A fault at a byte of the text.
 fn fault_at(text: &[u8], at: usize, kind: ScriptKind) -> ScriptFault
-    requires { length text.now ≤ 1048576 }
+    requires { length text.now ≤ MOST_BYTES }
     ensures place { StandsAt text.now at result }
     ensures kind { result.kind ≡ kind }
 {
@@ -86,7 +86,7 @@ fn fault_at(text: &[u8], at: usize, kind: ScriptKind) -> ScriptFault
 
 // The fault where no token can be read.
 fn unreadable(text: &[u8], fault: LexFault, at: u32) -> ScriptFault
-    requires { length text.now ≤ 1048576 }
+    requires { length text.now ≤ MOST_BYTES }
     ensures place { StandsAt text.now at result }
     ensures kind { result.kind ≡ lex_kind fault }
 {
@@ -118,7 +118,7 @@ fn readable(text: &[u8]) -> Result<&str, ScriptFault>
 
 /// All tokens of a text, in order, or the first place at which none can be read.
 #[tactic(auto, using(crate::proofs::Rising::spans_rise))]
-pub fn tokens(alloc: Global, text: &[u8]) -> Result<Items<Token>, ScriptFault>
+pub fn tokens(alloc: Global, text: &[u8]) -> Result<Tokens, ScriptFault>
     ensures ok { IfOk result (λ ts. AreTokens text.now ts) }
     ensures rise { IfOk result (λ ts. Rise 0 ts) }
     ensures err { IfErr result (λ f. IsLexFault text.now f) }
@@ -151,7 +151,7 @@ fn place_at(lexemes: &[Lexeme], token: usize) -> Option<u32>
 // The fault at the token at which the parser stopped.
 #[tactic(auto, using(crate::proofs::Parsed::stuck_some, crate::proofs::Parsed::stuck_none, crate::proofs::Parsed::stuck_bad))]
 fn stuck(text: &[u8], lexemes: &[Lexeme], tail: Tail, fault: Fault, token: usize) -> ScriptFault
-    requires short { length text.now ≤ 1048576 }
+    requires short { length text.now ≤ MOST_BYTES }
     requires text { IsText text.now }
     requires tokens { lexemes.now ≡ lexemes_of text.now }
     requires tail { (lexed text.now).tail ≡ tail }

@@ -72,7 +72,9 @@ impl Parser<'_> {
 
     // The names behind the dots of a type.
     fn others(&self, at: usize) -> Result<(Items<Dotted>, usize), Halt>
-        ensures { Gives (λ x. x) result (step.many (suc (length self.now.lexemes.now)) read.no_dot step.always read.dotted (slice_get self.now.lexemes.now) at) }
+        ensures { Gives (λ x. x) result
+            (step.many (suc (length self.now.lexemes.now)) read.no_dot step.always read.dotted
+                (slice_get self.now.lexemes.now) at) }
     {
         let mut others = Items::new(self.alloc);
         let mut here = at;
@@ -90,7 +92,9 @@ impl Parser<'_> {
     /// A message's type.
     #[tactic(auto, unfolding(crate::specs::ReadingScript::type_name))]
     pub fn type_name(&self, at: usize) -> Result<(TypeName, usize), Halt>
-        ensures { Gives (λ x. x) result (read.type_name (suc (length self.now.lexemes.now)) (slice_get self.now.lexemes.now) at) }
+        ensures { Gives (λ x. x) result
+            (read.type_name (suc (length self.now.lexemes.now))
+                (slice_get self.now.lexemes.now) at) }
     {
         let ((at, name), next) = self.name(at)?;
         let (others, next) = self.others(next)?;
@@ -113,7 +117,8 @@ impl Parser<'_> {
 
     #[tactic(auto, unfolding(crate::specs::ReadingScript::arg))]
     fn arg(&self, room: u32, at: usize) -> Result<(Arg, usize), Halt>
-        ensures { Gives (λ x. (seen.arg x.0, x.1)) result (read.arg room (slice_get self.now.lexemes.now) at) }
+        ensures { Gives (λ x. (seen.arg x.0, x.1)) result
+            (read.arg room (slice_get self.now.lexemes.now) at) }
     {
         let ((at, name), next) = self.word(at)?;
         let (colon_at, next) = self.symbol(Symbol::Colon, next)?;
@@ -131,7 +136,9 @@ impl Parser<'_> {
 
     // The fields of a message that is made.
     fn args(&self, room: u32, at: usize) -> Result<(Items<Arg>, usize), Halt>
-        ensures { Gives (λ x. (map seen.arg x.0, x.1)) result (step.many (suc (length self.now.lexemes.now)) step.closes arg_goes_on (read.arg room) (slice_get self.now.lexemes.now) at) }
+        ensures { Gives (λ x. (map seen.arg x.0, x.1)) result
+            (step.many (suc (length self.now.lexemes.now)) step.closes arg_goes_on (read.arg room)
+                (slice_get self.now.lexemes.now) at) }
     {
         let mut args = Items::new(self.alloc);
         let mut here = at;
@@ -153,7 +160,9 @@ impl Parser<'_> {
     /// A message that is made.
     #[tactic(auto, unfolding(crate::specs::ReadingScript::make))]
     pub fn make(&self, room: u32, at: usize) -> Result<(Make, usize), Halt>
-        ensures { Gives (λ x. (seen.make x.0, x.1)) result (read.make (suc (length self.now.lexemes.now)) room (slice_get self.now.lexemes.now) at) }
+        ensures { Gives (λ x. (seen.make x.0, x.1)) result
+            (read.make (suc (length self.now.lexemes.now)) room
+                (slice_get self.now.lexemes.now) at) }
     {
         let (name, next) = self.type_name(at)?;
         let (open_at, next) = self.symbol(Symbol::OpenBrace, next)?;
@@ -170,7 +179,8 @@ impl Parser<'_> {
 
     #[tactic(auto, unfolding(crate::specs::ReadingScript::row_name))]
     fn row_name(&self, room: u32, at: usize) -> Result<(RowName, usize), Halt>
-        ensures { Gives (λ x. (seen.row_name x.0, x.1)) result (read.row_name room (slice_get self.now.lexemes.now) at) }
+        ensures { Gives (λ x. (seen.row_name x.0, x.1)) result
+            (read.row_name room (slice_get self.now.lexemes.now) at) }
     {
         let (at, next) = self.key(Keyword::Row, at)?;
         let (open_at, next) = self.symbol(Symbol::Open, next)?;
@@ -187,7 +197,8 @@ impl Parser<'_> {
 
     #[tactic(auto, unfolding(crate::specs::ReadingScript::let_statement))]
     pub(crate) fn let_statement(&self, room: u32, at: usize) -> Result<(Stmt, usize), Halt>
-        ensures { Gives (λ x. (phrase x.0, x.1)) result (read.let_statement room (slice_get self.now.lexemes.now) at) }
+        ensures { Gives (λ x. (phrase x.0, x.1)) result
+            (read.let_statement room (slice_get self.now.lexemes.now) at) }
     {
         let (at, next) = self.key(Keyword::Let, at)?;
         let ((name_at, name), next) = self.name(next)?;
@@ -207,7 +218,8 @@ impl Parser<'_> {
 
     #[tactic(auto, unfolding(crate::specs::ReadingScript::set_statement))]
     pub(crate) fn set_statement(&self, room: u32, at: usize) -> Result<(Stmt, usize), Halt>
-        ensures { Gives (λ x. (phrase x.0, x.1)) result (read.set_statement room (slice_get self.now.lexemes.now) at) }
+        ensures { Gives (λ x. (phrase x.0, x.1)) result
+            (read.set_statement room (slice_get self.now.lexemes.now) at) }
     {
         let (at, next) = self.key(Keyword::Set, at)?;
         let ((field_at, field), next) = self.word(next)?;
@@ -227,7 +239,8 @@ impl Parser<'_> {
 
     #[tactic(auto, unfolding(crate::specs::ReadingScript::put_statement))]
     pub(crate) fn put_statement(&self, room: u32, at: usize) -> Result<(Stmt, usize), Halt>
-        ensures { Gives (λ x. (phrase x.0, x.1)) result (read.put_statement room (slice_get self.now.lexemes.now) at) }
+        ensures { Gives (λ x. (phrase x.0, x.1)) result
+            (read.put_statement room (slice_get self.now.lexemes.now) at) }
     {
         let (at, next) = self.key(Keyword::Put, at)?;
         let (row, next) = self.row_name(room, next)?;
@@ -246,7 +259,8 @@ impl Parser<'_> {
 
     #[tactic(auto, unfolding(crate::specs::ReadingScript::add_statement))]
     pub(crate) fn add_statement(&self, room: u32, at: usize) -> Result<(Stmt, usize), Halt>
-        ensures { Gives (λ x. (phrase x.0, x.1)) result (read.add_statement room (slice_get self.now.lexemes.now) at) }
+        ensures { Gives (λ x. (phrase x.0, x.1)) result
+            (read.add_statement room (slice_get self.now.lexemes.now) at) }
     {
         let (at, next) = self.key(Keyword::Add, at)?;
         let (row, next) = self.row_name(room, next)?;
@@ -265,7 +279,8 @@ impl Parser<'_> {
 
     #[tactic(auto, unfolding(crate::specs::ReadingScript::erase_statement))]
     pub(crate) fn erase_statement(&self, room: u32, at: usize) -> Result<(Stmt, usize), Halt>
-        ensures { Gives (λ x. (phrase x.0, x.1)) result (read.erase_statement room (slice_get self.now.lexemes.now) at) }
+        ensures { Gives (λ x. (phrase x.0, x.1)) result
+            (read.erase_statement room (slice_get self.now.lexemes.now) at) }
     {
         let (at, next) = self.key(Keyword::Erase, at)?;
         let (row, next) = self.row_name(room, next)?;
@@ -275,14 +290,16 @@ impl Parser<'_> {
 
     // The word of a message that is sent.
     fn destination_word(&self, to: Destination, at: usize) -> Result<(u32, usize), Halt>
-        ensures { Gives (λ x. x) result (step.key (destination_key to) (slice_get self.now.lexemes.now) at) }
+        ensures { Gives (λ x. x) result
+            (step.key (destination_key to) (slice_get self.now.lexemes.now) at) }
     {
         self.key(to.keyword(), at)
     }
 
     // The word of a statement that refuses the message.
     fn refusal_word(&self, refusal: Refusal, at: usize) -> Result<(u32, usize), Halt>
-        ensures { Gives (λ x. x) result (step.key (refusal_key refusal) (slice_get self.now.lexemes.now) at) }
+        ensures { Gives (λ x. x) result
+            (step.key (refusal_key refusal) (slice_get self.now.lexemes.now) at) }
     {
         self.key(refusal.keyword(), at)
     }
@@ -296,7 +313,9 @@ impl Parser<'_> {
         to: Destination,
         at: usize,
     ) -> Result<(Stmt, usize), Halt>
-        ensures { Gives (λ x. (phrase x.0, x.1)) result (read.sent (suc (length self.now.lexemes.now)) room (option_map seen.after delay) to (slice_get self.now.lexemes.now) at) }
+        ensures { Gives (λ x. (phrase x.0, x.1)) result
+            (read.sent (suc (length self.now.lexemes.now)) room (option_map seen.after delay) to
+                (slice_get self.now.lexemes.now) at) }
     {
         let (at, next) = self.destination_word(to, at)?;
         let (make, next) = self.make(room, next)?;
@@ -313,7 +332,8 @@ impl Parser<'_> {
 
     #[tactic(auto, unfolding(crate::specs::ReadingScript::after))]
     fn after(&self, room: u32, at: usize) -> Result<(After, usize), Halt>
-        ensures { Gives (λ x. (seen.after x.0, x.1)) result (read.after room (slice_get self.now.lexemes.now) at) }
+        ensures { Gives (λ x. (seen.after x.0, x.1)) result
+            (read.after room (slice_get self.now.lexemes.now) at) }
     {
         let (at, next) = self.key(Keyword::After, at)?;
         let (delay, next) = self.expr(room, next)?;
@@ -322,7 +342,10 @@ impl Parser<'_> {
 
     // What stands behind a delay.
     fn sent_by(&self, room: u32, delay: Option<After>, at: usize) -> Result<(Stmt, usize), Halt>
-        ensures { Gives (λ x. (phrase x.0, x.1)) result (step.by_seen (read.sent_by (suc (length self.now.lexemes.now)) room (option_map seen.after delay)) (slice_get self.now.lexemes.now) at) }
+        ensures { Gives (λ x. (phrase x.0, x.1)) result
+            (step.by_seen
+                (read.sent_by (suc (length self.now.lexemes.now)) room
+                    (option_map seen.after delay)) (slice_get self.now.lexemes.now) at) }
     {
         match self.seen(at) {
             Seen::Key(Keyword::Send) => self.sent(room, delay, Destination::Route, at),
@@ -333,7 +356,9 @@ impl Parser<'_> {
 
     #[tactic(auto, unfolding(crate::specs::ReadingScript::after_statement))]
     pub(crate) fn after_statement(&self, room: u32, at: usize) -> Result<(Stmt, usize), Halt>
-        ensures { Gives (λ x. (phrase x.0, x.1)) result (read.after_statement (suc (length self.now.lexemes.now)) room (slice_get self.now.lexemes.now) at) }
+        ensures { Gives (λ x. (phrase x.0, x.1)) result
+            (read.after_statement (suc (length self.now.lexemes.now)) room
+                (slice_get self.now.lexemes.now) at) }
     {
         let (delay, next) = self.after(room, at)?;
         self.sent_by(room, Some(delay), next)
@@ -341,7 +366,9 @@ impl Parser<'_> {
 
     #[tactic(auto, unfolding(crate::specs::ReadingScript::publish_statement))]
     pub(crate) fn publish_statement(&self, room: u32, at: usize) -> Result<(Stmt, usize), Halt>
-        ensures { Gives (λ x. (phrase x.0, x.1)) result (read.publish_statement (suc (length self.now.lexemes.now)) room (slice_get self.now.lexemes.now) at) }
+        ensures { Gives (λ x. (phrase x.0, x.1)) result
+            (read.publish_statement (suc (length self.now.lexemes.now)) room
+                (slice_get self.now.lexemes.now) at) }
     {
         let (at, next) = self.key(Keyword::Publish, at)?;
         let (make, next) = self.make(room, next)?;
@@ -364,7 +391,9 @@ impl Parser<'_> {
 
     #[tactic(auto, unfolding(crate::specs::ReadingScript::reply_statement))]
     pub(crate) fn reply_statement(&self, room: u32, at: usize) -> Result<(Stmt, usize), Halt>
-        ensures { Gives (λ x. (phrase x.0, x.1)) result (read.reply_statement (suc (length self.now.lexemes.now)) room (slice_get self.now.lexemes.now) at) }
+        ensures { Gives (λ x. (phrase x.0, x.1)) result
+            (read.reply_statement (suc (length self.now.lexemes.now)) room
+                (slice_get self.now.lexemes.now) at) }
     {
         let (at, next) = self.key(Keyword::Reply, at)?;
         let (originator_at, next) = self.originator(next)?;
@@ -381,7 +410,9 @@ impl Parser<'_> {
 
     #[tactic(auto, unfolding(crate::specs::ReadingScript::timeout_statement))]
     pub(crate) fn timeout_statement(&self, room: u32, at: usize) -> Result<(Stmt, usize), Halt>
-        ensures { Gives (λ x. (phrase x.0, x.1)) result (read.timeout_statement (suc (length self.now.lexemes.now)) room (slice_get self.now.lexemes.now) at) }
+        ensures { Gives (λ x. (phrase x.0, x.1)) result
+            (read.timeout_statement (suc (length self.now.lexemes.now)) room
+                (slice_get self.now.lexemes.now) at) }
     {
         let (at, next) = self.key(Keyword::Timeout, at)?;
         let (delay, next) = self.expr(room, next)?;
@@ -398,7 +429,8 @@ impl Parser<'_> {
 
     #[tactic(auto, unfolding(crate::specs::ReadingScript::complete_statement))]
     pub(crate) fn complete_statement(&self, at: usize) -> Result<(Stmt, usize), Halt>
-        ensures { Gives (λ x. (phrase x.0, x.1)) result (read.complete_statement (slice_get self.now.lexemes.now) at) }
+        ensures { Gives (λ x. (phrase x.0, x.1)) result
+            (read.complete_statement (slice_get self.now.lexemes.now) at) }
     {
         let (at, next) = self.key(Keyword::Complete, at)?;
         let (semi_at, next) = self.symbol(Symbol::Semi, next)?;
@@ -412,7 +444,8 @@ impl Parser<'_> {
         refusal: Refusal,
         at: usize,
     ) -> Result<(Stmt, usize), Halt>
-        ensures { Gives (λ x. (phrase x.0, x.1)) result (read.refuse_statement room refusal (slice_get self.now.lexemes.now) at) }
+        ensures { Gives (λ x. (phrase x.0, x.1)) result
+            (read.refuse_statement room refusal (slice_get self.now.lexemes.now) at) }
     {
         let (at, next) = self.refusal_word(refusal, at)?;
         let ((name_at, name), next) = self.name(next)?;

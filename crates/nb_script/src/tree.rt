@@ -1,5 +1,6 @@
 //! A script: its tree, and the text that it was read from.
 ghost use Rattle.std.specs.Prelude.{◌≡◌, ◌≤◌, Some, length};
+ghost use Rattle.nb_script.specs.declared.script.TheConstants.{MOST_BYTES};
 ghost use Rattle.nb_script.specs.declared.lexer.Tail.TheVariants.{End};
 ghost use Rattle.nb_script.specs.Lexing.{lexed};
 ghost use Rattle.nb_script.specs.Reads.{reads};
@@ -15,7 +16,7 @@ use sqlite_items::Items;
 pub struct Script {
     items: Items<Item>,
     text: Text,
-    ghost short: { length text ≤ 1048576 },
+    ghost short: { length text ≤ MOST_BYTES },
     ghost readable: { (lexed text).tail ≡ End },
     ghost read: { ∥ reads text ≡ Some (script items) ∥₁ },
 }
@@ -28,7 +29,7 @@ impl Script {
 
     /// The script of items that are read from a text.
     pub(crate) fn made(items: Items<Item>, text: Text) -> Script
-        requires short { length text ≤ 1048576 }
+        requires short { length text ≤ MOST_BYTES }
         requires readable { (lexed text).tail ≡ End }
         requires read { reads text ≡ Some (script items) }
         ensures rows { rows_of result ≡ items }

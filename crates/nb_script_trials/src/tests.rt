@@ -1,7 +1,5 @@
 use nb_base::Text;
-use nb_script::lexer::TokenKind;
-use nb_script::print_script::print;
-use nb_script::script::{ScriptFault, ScriptKind, parse, tokens};
+use nb_script::{ScriptFault, ScriptKind, TokenKind, parse, print, tokens};
 use std::alloc::Global;
 use std::test::Fail;
 
