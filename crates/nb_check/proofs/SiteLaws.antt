@@ -7,6 +7,7 @@ use Rattle.std.specs.Option.{option_copied}
 use Rattle.std.specs.Slice.{IsItemAt}
 use Rattle.std.specs.Str.{bytes_eq}
 use Rattle.std.proofs.lemmas.Slice.Eq.{bytes_eq-Decides}
+use Rattle.std.proofs.lemmas.List.{length-map}
 use Rattle.std.proofs.lemmas.Option.{slice_get-map}
 use Rattle.nb_base.specs.Orders.{ByName}
 use Rattle.nb_base.specs.declared.value.Key.{Key}
@@ -76,6 +77,10 @@ joined f None None h = refl
 joined f None (Some y) h = absurd (cc)
 joined f (Some x) None h = absurd (cc)
 joined f (Some x) (Some y) h = cc
+
+-- There are as many sites as blocks.
+pub sites_count : (items : List ItemTerm) → length (sites_from 0 items) ≡ length (blocks items)
+sites_count items = sym (length-map (sites_from 0 items) (site_block items)) ∙ ap length (leads items [] items refl) ∙ length-map (blocks items) Some
 
 -- the block with a number is the one at the site with this number
 pub site_leads : (items : List ItemTerm) (n : ℕ) → block_at items (slice_get (sites_from 0 items) n) ≡ slice_get (blocks items) n

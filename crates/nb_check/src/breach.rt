@@ -81,6 +81,13 @@ pub struct Placed {
     pub at: u32,
 }
 
+impl Copied for Placed {
+    fn copy(&self) -> Result<Placed, NoMemory> {
+        let name = self.name.copy()?;
+        Ok(Placed { name, at: self.at })
+    }
+}
+
 pub(crate) fn blame(breaches: &mut Breaches, at: u32, rule: CheckKind) -> Result<(), NoMemory>
     ensures { OnOk result (breaches.new ≡ breaches.old ++ spec.breach at rule) }
 {

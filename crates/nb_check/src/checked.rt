@@ -1,5 +1,5 @@
 //! A script that breaks no rule, which contracts see as its items.
-ghost use Rattle.std.specs.Prelude.{◌≡◌, [], true, Some, is_some, slice_get, option_copied, IfOk, IfErr};
+ghost use Rattle.std.specs.Prelude.{◌≡◌, ◌<◌, ◌^◌, [], length, true, Some, is_some, slice_get, option_copied, IfOk, IfErr};
 ghost use Rattle.nb_script.specs.Scripts.{rows_of, items_of};
 ghost use Rattle.nb_script.specs.Tree.{script};
 ghost use Rattle.nb_check.specs.Bodies.{Decodes};
@@ -59,7 +59,8 @@ impl Model for Checked {
 
     ghost view = { λ c. rows_of c.script };
 
-    ghost invariant = { λ c. IsChecked (items_of c.script) c.types c.names c.kinds c.sends c.sites c.numbers };
+    ghost invariant = { λ c. IsChecked
+        (items_of c.script) c.types c.names c.kinds c.sends c.sites c.numbers };
 }
 
 /// The breach that no other is before.
@@ -104,6 +105,17 @@ pub fn check(alloc: Global, script: Script) -> Result<Checked, CheckFault>
 }
 
 impl Checked {
+    /// A copy of the checked script.
+    pub fn copy(&self, alloc: Global) -> Result<Checked, NoMemory>
+        ensures { IfOk result (λ c. ∥ script c ≡ script self.now ∥₁) }
+    {
+        let script = self.script.copy(alloc)?;
+        match check(alloc, script) {
+            Ok(checked) => Ok(checked),
+            Err(_) => Err(NoMemory),
+        }
+    }
+
     /// The items of the script.
     pub fn items(&self) -> &[Item]
         ensures value { result.now ≡ self.now }
@@ -150,9 +162,19 @@ impl Checked {
         self.sites.as_slice()
     }
 
+    /// How many blocks the script has.
+    #[tactic(auto, using(crate::proofs::SiteLaws::sites_count))]
+    pub fn block_count(&self) -> usize
+        ensures count { result ≡ length (blocks (script self.now)) }
+        ensures few { length (blocks (script self.now)) < 2 ^ 32 }
+    {
+        self.sites.len()
+    }
+
     /// Where the block with this number stands.
     pub fn site(&self, number: u32) -> Option<&Site>
-        ensures { block_at (script self.now) (option_copied result) ≡ slice_get (blocks (script self.now)) number }
+        ensures { block_at (script self.now) (option_copied result)
+            ≡ slice_get (blocks (script self.now)) number }
     {
         self.sites().get(number as usize)
     }

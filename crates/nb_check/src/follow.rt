@@ -60,7 +60,8 @@ fn want_field_in(
     at: u32,
     e: Judgement,
 ) -> Result<(), NoMemory>
-    ensures { OnOk result (breaches.new ≡ breaches.old ++ spec.takes_in (option_copied declared.entry) name.now at e) }
+    ensures { OnOk result (breaches.new
+            ≡ breaches.old ++ spec.takes_in (option_copied declared.entry) name.now at e) }
 {
     match declared {
         None => Ok(()),
@@ -74,7 +75,8 @@ fn want_all(
     declared: Option<&FieldTable>,
     make: &Make,
 ) -> Result<(), NoMemory>
-    ensures { OnOk result (breaches.new ≡ breaches.old ++ missing_faults (option_copied declared.entry) (tree.make make.now)) }
+    ensures { OnOk result (breaches.new
+            ≡ breaches.old ++ missing_faults (option_copied declared.entry) (tree.make make.now)) }
 {
     match declared {
         None => blame(breaches, make.name.at, CheckKind::UnknownMessage),
@@ -86,7 +88,8 @@ fn want_all(
 }
 
 fn want_saga(breaches: &mut Breaches, at: u32, saga: Option<&SagaScope>) -> Result<(), NoMemory>
-    ensures { OnOk result (breaches.new ≡ breaches.old ++ needs_saga at (option_copied saga.entry)) }
+    ensures { OnOk result (breaches.new
+            ≡ breaches.old ++ needs_saga at (option_copied saga.entry)) }
 {
     match saga {
         None => blame(breaches, at, CheckKind::NoSaga),
@@ -100,7 +103,8 @@ fn want_originator(
     originator_at: Option<u32>,
     saga: Option<&SagaScope>,
 ) -> Result<(), NoMemory>
-    ensures { OnOk result (breaches.new ≡ breaches.old ++ originator_faults at originator_at (option_copied saga.entry)) }
+    ensures { OnOk result (breaches.new
+            ≡ breaches.old ++ originator_faults at originator_at (option_copied saga.entry)) }
 {
     match originator_at {
         None => Ok(()),
@@ -116,7 +120,8 @@ fn want_set(
     e: Judgement,
     saga: Option<&SagaScope>,
 ) -> Result<(), NoMemory>
-    ensures { OnOk result (breaches.new ≡ breaches.old ++ set_faults at field_at field.now e (option_copied saga.entry)) }
+    ensures { OnOk result (breaches.new
+            ≡ breaches.old ++ set_faults at field_at field.now e (option_copied saga.entry)) }
 {
     match saga {
         None => blame(breaches, at, CheckKind::NoSaga),
@@ -135,7 +140,8 @@ fn want_timeout(
     name: &TypeName,
     saga: Option<&SagaScope>,
 ) -> Result<(), NoMemory>
-    ensures { OnOk result (breaches.new ≡ breaches.old ++ timeout_faults name.now (option_copied saga.entry)) }
+    ensures { OnOk result (breaches.new
+            ≡ breaches.old ++ timeout_faults name.now (option_copied saga.entry)) }
 {
     match saga {
         None => Ok(()),
@@ -149,7 +155,8 @@ fn want_timeout(
 
 impl<'a> Scope<'a> {
     fn want_value(&self, k: FieldKind, e: &Expr, breaches: &mut Breaches) -> Result<(), NoMemory>
-        ensures { OnOk result (breaches.new ≡ breaches.old ++ value_faults k (tree.tree e.now) self.now) }
+        ensures { OnOk result (breaches.new
+                ≡ breaches.old ++ value_faults k (tree.tree e.now) self.now) }
     {
         let judged = self.judge(e, breaches)?;
         want(breaches, k, judged)?;
@@ -157,7 +164,8 @@ impl<'a> Scope<'a> {
     }
 
     fn want_row(&self, row: &RowName, breaches: &mut Breaches) -> Result<(), NoMemory>
-        ensures { OnOk result (breaches.new ≡ breaches.old ++ row_faults (tree.row_name row.now) self.now) }
+        ensures { OnOk result (breaches.new
+                ≡ breaches.old ++ row_faults (tree.row_name row.now) self.now) }
     {
         self.judge(&row.name, breaches)?;
         self.want_name(&row.name, breaches)?;
@@ -165,7 +173,8 @@ impl<'a> Scope<'a> {
     }
 
     fn want_delay(&self, after: &Option<After>, breaches: &mut Breaches) -> Result<(), NoMemory>
-        ensures { OnOk result (breaches.new ≡ breaches.old ++ delay_faults (option_map tree.after after.now) self.now) }
+        ensures { OnOk result (breaches.new
+                ≡ breaches.old ++ delay_faults (option_map tree.after after.now) self.now) }
     {
         match after {
             None => Ok(()),
@@ -179,7 +188,9 @@ impl<'a> Scope<'a> {
         args: &[Arg],
         breaches: &mut Breaches,
     ) -> Result<(), NoMemory>
-        ensures { OnOk result (breaches.new ≡ breaches.old ++ args_faults (option_copied declared.entry) (map tree.arg args.now) self.now) }
+        ensures { OnOk result (breaches.new
+                ≡ breaches.old
+                ++ args_faults (option_copied declared.entry) (map tree.arg args.now) self.now) }
     {
         for a in args {
             let judged = self.judge(&a.value, breaches)?;
@@ -195,7 +206,9 @@ impl<'a> Scope<'a> {
         make: &Make,
         breaches: &mut Breaches,
     ) -> Result<(), NoMemory>
-        ensures { OnOk result (breaches.new ≡ breaches.old ++ made_faults (option_copied declared.entry) (tree.make make.now) self.now) }
+        ensures { OnOk result (breaches.new
+                ≡ breaches.old
+                ++ made_faults (option_copied declared.entry) (tree.make make.now) self.now) }
     {
         want_all(alloc, breaches, declared, make)?;
         let placed = placed_args(alloc, make.args.as_slice())?;
@@ -211,7 +224,8 @@ impl<'a> Scope<'a> {
         make: &Make,
         breaches: &mut Breaches,
     ) -> Result<(), NoMemory>
-        ensures { OnOk result (breaches.new ≡ breaches.old ++ make_faults messages.now (tree.make make.now) self.now) }
+        ensures { OnOk result (breaches.new
+                ≡ breaches.old ++ make_faults messages.now (tree.make make.now) self.now) }
     {
         let name = type_text(alloc, &make.name)?;
         self.want_made(alloc, messages.fields_of(&name), make, breaches)
@@ -225,8 +239,10 @@ impl<'a> Scope<'a> {
         value: &Expr,
         breaches: &mut Breaches,
     ) -> Result<(), NoMemory>
-        ensures broken { OnOk result (breaches.new ≡ breaches.old ++ spec.let_faults name_at name.now (tree.tree value.now) self.old) }
-        ensures after { OnOk result (self.new ≡ spec.after_let name.now (tree.tree value.now) self.old) }
+        ensures broken { OnOk result (breaches.new
+                ≡ breaches.old ++ spec.let_faults name_at name.now (tree.tree value.now) self.old) }
+        ensures after { OnOk result (self.new
+                ≡ spec.after_let name.now (tree.tree value.now) self.old) }
     {
         let judged = self.judge(value, breaches)?;
         let is_new = self.local(name).is_none();
@@ -247,7 +263,9 @@ impl<'a> Scope<'a> {
         value: &Expr,
         breaches: &mut Breaches,
     ) -> Result<(), NoMemory>
-        ensures { OnOk result (breaches.new ≡ breaches.old ++ spec.set_value_faults at field_at field.now (tree.tree value.now) self.now) }
+        ensures { OnOk result (breaches.new
+                ≡ breaches.old
+                ++ spec.set_value_faults at field_at field.now (tree.tree value.now) self.now) }
     {
         let judged = self.judge(value, breaches)?;
         want_set(breaches, at, field_at, field, judged, self.saga())?;
@@ -255,7 +273,9 @@ impl<'a> Scope<'a> {
     }
 
     fn want_put(&self, row: &RowName, value: &Expr, breaches: &mut Breaches) -> Result<(), NoMemory>
-        ensures { OnOk result (breaches.new ≡ breaches.old ++ spec.put_faults (tree.row_name row.now) (tree.tree value.now) self.now) }
+        ensures { OnOk result (breaches.new
+                ≡ breaches.old
+                ++ spec.put_faults (tree.row_name row.now) (tree.tree value.now) self.now) }
     {
         self.want_row(row, breaches)?;
         self.want_value(FieldKind::Int, value, breaches)?;
@@ -270,7 +290,10 @@ impl<'a> Scope<'a> {
         make: &Make,
         breaches: &mut Breaches,
     ) -> Result<(), NoMemory>
-        ensures { OnOk result (breaches.new ≡ breaches.old ++ spec.send_faults messages.now (option_map tree.after after.now) (tree.make make.now) self.now) }
+        ensures { OnOk result (breaches.new
+                ≡ breaches.old
+                ++ spec.send_faults messages.now (option_map tree.after after.now)
+                (tree.make make.now) self.now) }
     {
         self.want_delay(after, breaches)?;
         self.want_make(alloc, messages, make, breaches)?;
@@ -286,7 +309,9 @@ impl<'a> Scope<'a> {
         make: &Make,
         breaches: &mut Breaches,
     ) -> Result<(), NoMemory>
-        ensures { OnOk result (breaches.new ≡ breaches.old ++ spec.reply_faults messages.now at originator_at (tree.make make.now) self.now) }
+        ensures { OnOk result (breaches.new
+                ≡ breaches.old
+                ++ spec.reply_faults messages.now at originator_at (tree.make make.now) self.now) }
     {
         want_originator(breaches, at, originator_at, self.saga())?;
         self.want_make(alloc, messages, make, breaches)?;
@@ -302,7 +327,10 @@ impl<'a> Scope<'a> {
         make: &Make,
         breaches: &mut Breaches,
     ) -> Result<(), NoMemory>
-        ensures { OnOk result (breaches.new ≡ breaches.old ++ spec.timed_faults messages.now at (tree.tree delay.now) (tree.make make.now) self.now) }
+        ensures { OnOk result (breaches.new
+                ≡ breaches.old
+                ++ spec.timed_faults messages.now at (tree.tree delay.now)
+                (tree.make make.now) self.now) }
     {
         want_saga(breaches, at, self.saga())?;
         self.want_value(FieldKind::Int, delay, breaches)?;
@@ -320,7 +348,8 @@ impl<'a> Scope<'a> {
         d: &Stmt,
         breaches: &mut Breaches,
     ) -> Result<(), NoMemory>
-        ensures broken { OnOk result (breaches.new ≡ breaches.old ++ phrase_faults messages.now (phrase d.now) self.old) }
+        ensures broken { OnOk result (breaches.new
+                ≡ breaches.old ++ phrase_faults messages.now (phrase d.now) self.old) }
         ensures after { OnOk result (self.new ≡ after (phrase d.now) self.old) }
     {
         match d {
@@ -382,7 +411,8 @@ impl<'a> Scope<'a> {
         b: &Block,
         breaches: &mut Breaches,
     ) -> Result<(), NoMemory>
-        ensures broken { OnOk result (breaches.new ≡ breaches.old ++ braces_faults messages.now (block b.now) self.old) }
+        ensures broken { OnOk result (breaches.new
+                ≡ breaches.old ++ braces_faults messages.now (block b.now) self.old) }
         ensures after { OnOk result (self.new ≡ self.old) }
     {
         let count = self.count();
@@ -401,7 +431,8 @@ impl<'a> Scope<'a> {
         o: &Else,
         breaches: &mut Breaches,
     ) -> Result<(), NoMemory>
-        ensures broken { OnOk result (breaches.new ≡ breaches.old ++ otherwise_faults messages.now (otherwise o.now) self.old) }
+        ensures broken { OnOk result (breaches.new
+                ≡ breaches.old ++ otherwise_faults messages.now (otherwise o.now) self.old) }
         ensures after { OnOk result (self.new ≡ self.old) }
     {
         match o {

@@ -1,15 +1,13 @@
 //! What the headers of a message say of the blocks that it meets.
-ghost use Rattle.std.specs.Prelude.{◌≡◌, ◌==◌, Some, option_copied, IfOk};
-ghost use Rattle.std.specs.List.{before_first};
-ghost use Rattle.nb_headers.specs.Reads.{type_name, trimmed_start, trimmed_end};
+ghost use Rattle.std.specs.Prelude.{◌≡◌, Some, option_copied, IfOk};
 ghost use Rattle.nb_check.specs.Meets.{is_true, is_timeout, is_empty, address_in, address_by, address_of, incoming_of, incoming, addresses, fits_role};
 ghost use Rattle.nb_check.specs.Blocks.{part_block};
 ghost use Rattle.nb_check.specs.Sites.{fits_block};
 ghost use Rattle.nb_script.specs.Tree as tree;
 
 use nb_base::{Bytes, Copied, Envelope, Names, NoMemory, Text};
-use nb_headers::message_type;
 use nb_headers::names::{IS_SAGA_TIMEOUT_MESSAGE, SAGA_ID, SAGA_TYPE};
+use nb_headers::{message_type, type_name};
 use nb_script::item::{Answer, Part};
 use std::alloc::Global;
 
@@ -18,6 +16,14 @@ use std::alloc::Global;
 pub struct Address {
     pub saga: Bytes,
     pub id: Text,
+}
+
+impl Copied for Address {
+    fn copy(&self) -> Result<Address, NoMemory> {
+        let saga = self.saga.copy()?;
+        let id = self.id.copy()?;
+        Ok(Address { saga, id })
+    }
 }
 
 /// A message whose type is declared.
@@ -31,41 +37,20 @@ pub struct Incoming {
     pub address: Option<Address>,
 }
 
-/// The bytes without the spaces at their start.
-fn trimmed_start(mut text: &[u8]) -> &[u8]
-    ensures { result.now ≡ trimmed_start text.entry.now }
-{
-    while let [b' ', rest @ ..] = text {
-        text = rest;
+impl Copied for Incoming {
+    fn copy(&self) -> Result<Incoming, NoMemory> {
+        let name = self.name.copy()?;
+        let address = match &self.address {
+            Some(address) => Some(address.copy()?),
+            None => None,
+        };
+        Ok(Incoming {
+            message: self.message,
+            name,
+            timeout: self.timeout,
+            address,
+        })
     }
-    text
-}
-
-/// The bytes without the spaces at their end.
-fn trimmed_end(mut text: &[u8]) -> &[u8]
-    ensures { result.now ≡ trimmed_end text.entry.now }
-{
-    while let [rest @ .., b' '] = text {
-        text = rest;
-    }
-    text
-}
-
-/// What stands before the first comma.
-fn before_comma(text: &str) -> &[u8]
-    ensures { result.now ≡ before_first (λ c. c == 44) text.now }
-{
-    match text.split_once(',') {
-        Some((name, _)) => name.as_bytes(),
-        None => text.as_bytes(),
-    }
-}
-
-/// The name of a type: what stands before the first comma, without the spaces round it.
-fn type_name(text: &str) -> &[u8]
-    ensures { result.now ≡ type_name text.now }
-{
-    trimmed_end(trimmed_start(before_comma(text)))
 }
 
 fn is_timeout(e: &Envelope) -> bool
@@ -93,7 +78,8 @@ fn address_by(
     saga: Option<&Text>,
     id: Option<&Text>,
 ) -> Result<Option<Address>, NoMemory>
-    ensures { IfOk result (λ a. a ≡ address_by (option_copied saga.entry) (option_copied id.entry)) }
+    ensures { IfOk result (λ a. a
+            ≡ address_by (option_copied saga.entry) (option_copied id.entry)) }
 {
     match (saga, id) {
         (Some(saga), Some(id)) => address_in(alloc, type_name(saga.as_str()), id),

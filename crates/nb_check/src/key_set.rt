@@ -75,7 +75,8 @@ impl Known {
         e: &Expr,
         keys: &mut Keys,
     ) -> Result<(), NoMemory>
-        ensures { OnOk result (keys.new ≡ keys.old ++ call_key function (tree.tree e.now) self.now) }
+        ensures { OnOk result (keys.new
+                ≡ keys.old ++ call_key function (tree.tree e.now) self.now) }
     {
         match function {
             Function::Row | Function::Has => self.row_key(alloc, e, keys),
@@ -109,7 +110,8 @@ impl Known {
     }
 
     fn named_row_keys(&self, alloc: Global, row: &RowName, keys: &mut Keys) -> Result<(), NoMemory>
-        ensures { OnOk result (keys.new ≡ keys.old ++ named_row_keys (tree.row_name row.now) self.now) }
+        ensures { OnOk result (keys.new
+                ≡ keys.old ++ named_row_keys (tree.row_name row.now) self.now) }
     {
         self.term_keys(alloc, &row.name, keys)?;
         self.row_key(alloc, &row.name, keys)?;
@@ -131,7 +133,8 @@ impl Known {
         after: &Option<After>,
         keys: &mut Keys,
     ) -> Result<(), NoMemory>
-        ensures { OnOk result (keys.new ≡ keys.old ++ delay_keys (option_map tree.after after.now) self.now) }
+        ensures { OnOk result (keys.new
+                ≡ keys.old ++ delay_keys (option_map tree.after after.now) self.now) }
     {
         match after {
             None => Ok(()),
@@ -226,7 +229,9 @@ impl Incoming {
         part: &Part,
         keys: &mut Keys,
     ) -> Result<(), NoMemory>
-        ensures { OnOk result (keys.new ≡ keys.old ++ block_keys self.now known.now (part_block saga.now (tree.part part.now))) }
+        ensures { OnOk result (keys.new
+                ≡ keys.old ++ block_keys self.now known.now
+                (part_block saga.now (tree.part part.now))) }
     {
         match part {
             Part::ByField { field, block, .. } => {
@@ -251,7 +256,8 @@ impl Incoming {
         site: &Site,
         keys: &mut Keys,
     ) -> Result<(), NoMemory>
-        ensures { OnOk result (keys.new ≡ keys.old ++ keys_at self.now known.now (site_block (script items.now) site.now)) }
+        ensures { OnOk result (keys.new
+                ≡ keys.old ++ keys_at self.now known.now (site_block (script items.now) site.now)) }
     {
         match items.get(site.item as usize) {
             Some(Item::Handler { block, .. }) => known.body_keys(alloc, block, keys),
@@ -275,7 +281,9 @@ impl Checked {
         number: u32,
         keys: &mut Keys,
     ) -> Result<(), NoMemory>
-        ensures { OnOk result (keys.new ≡ keys.old ++ keys_at m.now known.now (slice_get (blocks (script self.now)) number)) }
+        ensures { OnOk result (keys.new
+                ≡ keys.old ++ keys_at m.now known.now
+                (slice_get (blocks (script self.now)) number)) }
     {
         match self.site(number) {
             Some(site) => m.site_keys(alloc, known, self.items(), site, keys),
@@ -291,7 +299,8 @@ impl Checked {
         known: &Known,
         numbers: &[u32],
     ) -> Result<Keys, NoMemory>
-        ensures { IfOk result (λ ks. ks ≡ numbers_keys m.now known.now (blocks (script self.now)) numbers.now) }
+        ensures { IfOk result (λ ks. ks
+                ≡ numbers_keys m.now known.now (blocks (script self.now)) numbers.now) }
     {
         let mut keys = Items::new(alloc);
         for number in numbers {

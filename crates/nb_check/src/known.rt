@@ -15,6 +15,14 @@ pub struct Known {
     pub fields: Fields,
 }
 
+impl Copied for Known {
+    fn copy(&self) -> Result<Known, NoMemory> {
+        let id = self.id.copy()?;
+        let fields = self.fields.copy()?;
+        Ok(Known { id, fields })
+    }
+}
+
 /// The value of the first field of this name.
 pub(crate) fn value_in<'a>(name: &Text, fields: &'a [Field]) -> Option<&'a Value>
     ensures { option_copied result ≡ value_in name.now fields.now }

@@ -30,4 +30,4 @@ pub use incoming::{Address, Incoming};
 pub use known::Known;
 pub use sight::{Judgement, Local, SagaSight, Sight, Taken};
 pub use sites::{Blocks, Site};
-pub use types::{Declared, MessageType, SagaType, StateField};
+pub use types::{Declared, MessageType, SagaType, StateField, first_value};

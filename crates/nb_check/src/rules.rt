@@ -93,7 +93,8 @@ fn placed_fields(alloc: Global, fields: &[MessageField]) -> Result<Items<Placed>
 
 /// The correlation property and the other fields of a saga.
 fn placed_state(alloc: Global, saga: &Saga) -> Result<Items<Placed>, NoMemory>
-    ensures { IfOk result (λ ps. ps ≡ spec.placed_field saga.now.correlation ∷ spec.placed_state saga.now.fields) }
+    ensures { IfOk result (λ ps. ps
+            ≡ spec.placed_field saga.now.correlation ∷ spec.placed_state saga.now.fields) }
 {
     let mut placed = Items::new(alloc);
     placed.push(placed_field(&saga.correlation)?)?;
@@ -219,7 +220,8 @@ fn want_since(
     kind: FieldKind,
     since: &Option<Since>,
 ) -> Result<(), NoMemory>
-    ensures { OnOk result (breaches.new ≡ breaches.old ++ spec.since_faults revision kind since.now) }
+    ensures { OnOk result (breaches.new
+            ≡ breaches.old ++ spec.since_faults revision kind since.now) }
 {
     match since {
         None => Ok(()),
@@ -248,7 +250,8 @@ fn want_state(breaches: &mut Breaches, revision: i64, fields: &[SagaField]) -> R
 }
 
 fn saga_kinds(alloc: Global, saga: &Saga) -> Result<Items<Declared>, NoMemory>
-    ensures { IfOk result (λ ds. ds ≡ declared.field_of saga.now.correlation ∷ spec.state_kinds saga.now.fields) }
+    ensures { IfOk result (λ ds. ds
+            ≡ declared.field_of saga.now.correlation ∷ spec.state_kinds saga.now.fields) }
 {
     let mut kinds = Items::new(alloc);
     kinds.push(field_of(&saga.correlation)?)?;
@@ -273,7 +276,8 @@ fn want_message(
     fields: Option<&FieldTable>,
     at: u32,
 ) -> Result<(), NoMemory>
-    ensures { OnOk result (breaches.new ≡ breaches.old ++ unless_known (option_copied fields.entry) at) }
+    ensures { OnOk result (breaches.new
+            ≡ breaches.old ++ unless_known (option_copied fields.entry) at) }
 {
     match fields {
         None => blame(breaches, at, CheckKind::UnknownMessage),
@@ -290,7 +294,9 @@ fn want_block(
     saga: Option<&SagaScope>,
     b: &Block,
 ) -> Result<(), NoMemory>
-    ensures { OnOk result (breaches.new ≡ breaches.old ++ spec.block_faults messages.now name.now (option_copied saga.entry) (block b.now)) }
+    ensures { OnOk result (breaches.new
+            ≡ breaches.old
+            ++ spec.block_faults messages.now name.now (option_copied saga.entry) (block b.now)) }
 {
     let text = type_text(alloc, name)?;
     let fields = messages.fields_of(&text);
@@ -322,7 +328,9 @@ fn want_by(
     at: u32,
     correlation: FieldKind,
 ) -> Result<(), NoMemory>
-    ensures { OnOk result (breaches.new ≡ breaches.old ++ spec.by_faults (option_copied fields.entry) field.now at correlation) }
+    ensures { OnOk result (breaches.new
+            ≡ breaches.old
+            ++ spec.by_faults (option_copied fields.entry) field.now at correlation) }
 {
     match fields {
         None => Ok(()),
@@ -338,7 +346,9 @@ fn want_part(
     correlation: FieldKind,
     part: &Part,
 ) -> Result<(), NoMemory>
-    ensures { OnOk result (breaches.new ≡ breaches.old ++ spec.part_faults messages.now saga.now correlation (tree.part part.now)) }
+    ensures { OnOk result (breaches.new
+            ≡ breaches.old
+            ++ spec.part_faults messages.now saga.now correlation (tree.part part.now)) }
 {
     match part {
         Part::ByField {
@@ -371,7 +381,11 @@ fn want_parts(
     messages: &MessageTable,
     saga: &Saga,
 ) -> Result<(), NoMemory>
-    ensures { OnOk result (breaches.new ≡ breaches.old ++ spec.parts_faults messages.now (spec.saga_sight (tree.saga saga.now)) saga.now.correlation.kind (map tree.part saga.now.parts)) }
+    ensures { OnOk result (breaches.new
+            ≡ breaches.old
+            ++ spec.parts_faults messages.now
+            (spec.saga_sight (tree.saga saga.now)) saga.now.correlation.kind
+            (map tree.part saga.now.parts)) }
 {
     let scope = saga_scope(alloc, saga)?;
     for p in saga.parts.as_slice() {
@@ -382,7 +396,8 @@ fn want_parts(
 
 /// Adds the rules that the fields and the revision of a saga break.
 fn want_declared(alloc: Global, breaches: &mut Breaches, saga: &Saga) -> Result<(), NoMemory>
-    ensures { OnOk result (breaches.new ≡ breaches.old ++ spec.declared_faults (tree.saga saga.now)) }
+    ensures { OnOk result (breaches.new
+            ≡ breaches.old ++ spec.declared_faults (tree.saga saga.now)) }
 {
     let placed = placed_state(alloc, saga)?;
     want_distinct(alloc, breaches, CheckKind::FieldTwice, placed.as_slice())?;
@@ -402,7 +417,8 @@ fn want_saga(
     messages: &MessageTable,
     saga: &Saga,
 ) -> Result<(), NoMemory>
-    ensures { OnOk result (breaches.new ≡ breaches.old ++ spec.saga_faults messages.now (tree.saga saga.now)) }
+    ensures { OnOk result (breaches.new
+            ≡ breaches.old ++ spec.saga_faults messages.now (tree.saga saga.now)) }
 {
     want_declared(alloc, breaches, saga)?;
     let parts = placed_parts(alloc, saga.parts.as_slice())?;
@@ -419,7 +435,8 @@ fn want_item(
     messages: &MessageTable,
     i: &Item,
 ) -> Result<(), NoMemory>
-    ensures { OnOk result (breaches.new ≡ breaches.old ++ spec.item_faults messages.now (tree.item i.now)) }
+    ensures { OnOk result (breaches.new
+            ≡ breaches.old ++ spec.item_faults messages.now (tree.item i.now)) }
 {
     match i {
         Item::Message { fields, .. } => {
@@ -439,7 +456,8 @@ fn want_items(
     messages: &MessageTable,
     items: &[Item],
 ) -> Result<(), NoMemory>
-    ensures { OnOk result (breaches.new ≡ breaches.old ++ spec.items_faults messages.now (script items.now)) }
+    ensures { OnOk result (breaches.new
+            ≡ breaches.old ++ spec.items_faults messages.now (script items.now)) }
 {
     for i in items {
         want_item(alloc, breaches, messages, i)?;

@@ -27,7 +27,8 @@ impl Model for SagaScope {
 
     ghost Value = { SagaSight };
 
-    ghost view = { λ s. record { correlation = s.correlation; fields = s.fields; timeouts = s.timeouts } };
+    ghost view = { λ s. record { correlation = s.correlation; fields = s.fields;
+            timeouts = s.timeouts } };
 
     ghost invariant = { λ s. AreNames s.timeout_table s.timeouts };
 }
@@ -40,7 +41,8 @@ impl SagaScope {
         fields: FieldTable,
         timeouts: Names,
     ) -> Result<SagaScope, NoMemory>
-        ensures { IfOk result (λ s. s ≡ record { correlation = correlation; fields = fields; timeouts = timeouts }) }
+        ensures { IfOk result (λ s. s
+                ≡ record { correlation = correlation; fields = fields; timeouts = timeouts }) }
     {
         let timeout_table = names_table(alloc, timeouts.as_slice())?;
         Ok(SagaScope {
@@ -86,7 +88,8 @@ impl<'a> Model for Scope<'a> {
 
     ghost Value = { Sight };
 
-    ghost view = { λ g. record { message = option_copied g.message; saga = option_copied g.saga; names = g.names } };
+    ghost view = { λ g. record { message = option_copied g.message; saga = option_copied g.saga;
+            names = g.names } };
 }
 
 impl<'a> Scope<'a> {
@@ -95,7 +98,8 @@ impl<'a> Scope<'a> {
         message: Option<&'a FieldTable>,
         saga: Option<&'a SagaScope>,
     ) -> Scope<'a>
-        ensures { result ≡ record { message = option_copied message.entry; saga = option_copied saga.entry; names = [] } }
+        ensures { result ≡ record { message = option_copied message.entry;
+                saga = option_copied saga.entry; names = [] } }
     {
         Scope {
             message,
@@ -161,7 +165,8 @@ impl<'a> Scope<'a> {
 
     /// Brings a name into sight.
     pub(crate) fn bring(&mut self, local: Local) -> Result<(), NoMemory>
-        ensures { OnOk result (self.new ≡ record self.old { names = self.old.names ++ local ∷ [] }) }
+        ensures { OnOk result (self.new
+                ≡ record self.old { names = self.old.names ++ local ∷ [] }) }
     {
         self.names.push(local)
     }

@@ -5,16 +5,25 @@ ghost use Rattle.nb_check.specs.Kinds.{is_truth, is_text, taken_by, made_by, pre
 
 use crate::breach::{Breaches, CheckKind, want_true};
 use crate::types::Declared;
-use nb_base::{Items, Names, NoMemory, Text};
+use nb_base::{Copied, Items, Names, NoMemory, Text};
 use nb_script::expr::{Binary, Constant, Function, Unary};
 use nb_script::item::FieldKind;
-use sqlite_items::Items as Rows;
 
 /// A name that a `let` made. The kind of its value isn't known where the value names what isn't declared.
 #[derive(Debug, Drop)]
 pub struct Local {
     pub name: Text,
     pub kind: Option<FieldKind>,
+}
+
+impl Copied for Local {
+    fn copy(&self) -> Result<Local, NoMemory> {
+        let name = self.name.copy()?;
+        Ok(Local {
+            name,
+            kind: self.kind,
+        })
+    }
 }
 
 /// What a part of a saga sees of it, as contracts see it.
@@ -28,6 +37,19 @@ pub struct SagaSight {
     pub timeouts: Names,
 }
 
+impl Copied for SagaSight {
+    fn copy(&self) -> Result<SagaSight, NoMemory> {
+        let correlation = self.correlation.copy()?;
+        let fields = self.fields.copy()?;
+        let timeouts = self.timeouts.copy()?;
+        Ok(SagaSight {
+            correlation,
+            fields,
+            timeouts,
+        })
+    }
+}
+
 /// What is in sight of an expression, as contracts see it.
 #[derive(Debug, Drop)]
 pub struct Sight {
@@ -35,7 +57,26 @@ pub struct Sight {
     pub message: Option<Items<Declared>>,
     /// The saga, in a part of one.
     pub saga: Option<SagaSight>,
-    pub names: Rows<Local>,
+    pub names: Items<Local>,
+}
+
+impl Copied for Sight {
+    fn copy(&self) -> Result<Sight, NoMemory> {
+        let message = match &self.message {
+            Some(fields) => Some(fields.copy()?),
+            None => None,
+        };
+        let saga = match &self.saga {
+            Some(saga) => Some(saga.copy()?),
+            None => None,
+        };
+        let names = self.names.copy()?;
+        Ok(Sight {
+            message,
+            saga,
+            names,
+        })
+    }
 }
 
 /// The place of an expression's first token, and its kind, where that is known.

@@ -29,6 +29,17 @@ pub struct Site {
     pub name: Text,
 }
 
+impl Copied for Site {
+    fn copy(&self) -> Result<Site, NoMemory> {
+        let name = self.name.copy()?;
+        Ok(Site {
+            item: self.item,
+            part: self.part,
+            name,
+        })
+    }
+}
+
 /// The number after this one.
 fn next(number: u32) -> Result<u32, NoMemory>
     ensures { IfOk result (λ n. n ≡ number + 1) }
@@ -111,7 +122,9 @@ fn add_number(
     number: u32,
     named: &mut ByName<Blocks>,
 ) -> Result<(), NoMemory>
-    ensures { OnOk result ((q : List ℕ) → numbers_of (names.get named.new q) ≡ numbers_of (names.get named.old q) ++ number_if (bytes_eq q name.now) number) }
+    ensures { OnOk result ((q : List ℕ)
+            → numbers_of (names.get named.new q)
+            ≡ numbers_of (names.get named.old q) ++ number_if (bytes_eq q name.now) number) }
 {
     let key = name.copy()?;
     let mut numbers = take_numbers(alloc, name, named);

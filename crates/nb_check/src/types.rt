@@ -36,6 +36,14 @@ pub struct MessageType {
     pub fields: Items<Declared>,
 }
 
+impl Copied for MessageType {
+    fn copy(&self) -> Result<MessageType, NoMemory> {
+        let name = self.name.copy()?;
+        let fields = self.fields.copy()?;
+        Ok(MessageType { name, fields })
+    }
+}
+
 /// A field of a saga beside its correlation property.
 #[derive(Debug, Drop)]
 pub struct StateField {
@@ -45,6 +53,19 @@ pub struct StateField {
     pub since: i64,
     /// Its value in a new saga, and in one that was stored before the field was there.
     pub first: Value,
+}
+
+impl Copied for StateField {
+    fn copy(&self) -> Result<StateField, NoMemory> {
+        let name = self.name.copy()?;
+        let first = self.first.copy()?;
+        Ok(StateField {
+            name,
+            kind: self.kind,
+            since: self.since,
+            first,
+        })
+    }
 }
 
 /// A declared saga.
@@ -57,6 +78,22 @@ pub struct SagaType {
     pub fields: Items<StateField>,
     /// The messages of its timeouts.
     pub timeouts: Names,
+}
+
+impl Copied for SagaType {
+    fn copy(&self) -> Result<SagaType, NoMemory> {
+        let name = self.name.copy()?;
+        let correlation = self.correlation.copy()?;
+        let fields = self.fields.copy()?;
+        let timeouts = self.timeouts.copy()?;
+        Ok(SagaType {
+            name,
+            revision: self.revision,
+            correlation,
+            fields,
+            timeouts,
+        })
+    }
 }
 
 /// The text of a message's type.
@@ -131,7 +168,8 @@ fn since_of(since: &Option<Since>) -> i64
     }
 }
 
-fn first_value(alloc: Global, kind: FieldKind, since: &Option<Since>) -> Result<Value, NoMemory>
+/// The value of a field in a new saga, and in one that was stored before the field was there.
+pub fn first_value(alloc: Global, kind: FieldKind, since: &Option<Since>) -> Result<Value, NoMemory>
     ensures { IfOk result (λ v. v ≡ first_value kind since.now) }
 {
     match since {
