@@ -50,8 +50,10 @@ fn number_of(name: &Text, names: &Names) -> Option<u32>
 
 /// The number, among the declared messages, of the first message sent that has no route.
 pub fn missing_route(settings: &Settings, checked: &Checked) -> Option<u32>
-    ensures all_routed { result ≡ None → AreRouted settings.now.routes (sends (script checked.now)) }
-    ensures number { result ≡ missing_route_of settings.now.routes (sends (script checked.now)) (declared_names (script checked.now)) }
+    ensures all_routed { result ≡ None
+        → AreRouted settings.now.routes (sends (script checked.now)) }
+    ensures number { result ≡ missing_route_of settings.now.routes (sends (script checked.now))
+        (declared_names (script checked.now)) }
 {
     match first_unrouted(settings, checked.sends()) {
         None => None,

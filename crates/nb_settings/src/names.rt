@@ -15,7 +15,8 @@ use toml::Value;
 
 /// The endpoint's name.
 pub(crate) fn endpoint_in(alloc: Global, root: &Value) -> Result<Text, SettingsRefusal>
-    ensures reads { Reads result (endpoint_faults_at (view root.now)) (endpoint_at (view root.now)) }
+    ensures reads { Reads result (endpoint_faults_at (view root.now))
+        (endpoint_at (view root.now)) }
     ensures range { IfOk result (λ t. is_endpoint t ≡ true) }
 {
     match root.get("endpoint") {
@@ -48,7 +49,8 @@ pub(crate) fn error_in(
     endpoint: &Text,
     root: &Value,
 ) -> Result<Text, SettingsRefusal>
-    ensures reads { Reads result (error_faults_at endpoint.now (view root.now)) (error_at (view root.now)) }
+    ensures reads { Reads result (error_faults_at endpoint.now (view root.now))
+        (error_at (view root.now)) }
     ensures range { IfOk result (λ t. is_queue t ≡ true) }
     ensures differs { IfOk result (λ t. bytes_eq t endpoint.now ≡ false) }
 {

@@ -40,7 +40,8 @@ fn number_in(
 
 /// The numbers of the table `recoverability`.
 fn retries_within(alloc: Global, group: &Value) -> Result<Retries, SettingsRefusal>
-    ensures reads { Reads result (retry_faults (view group.now)) (retries_of (Some (view group.now))) }
+    ensures reads { Reads result (retry_faults (view group.now))
+        (retries_of (Some (view group.now))) }
     ensures range { IfOk result AreInRange }
 {
     let immediate = group.get("immediate");

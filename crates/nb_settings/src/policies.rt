@@ -31,7 +31,9 @@ fn action_named(text: &str) -> Option<Action>
 
 /// What is done with the faults of a name.
 fn action_in(alloc: Global, name: &str, value: &Value) -> Result<Action, SettingsRefusal>
-    ensures { Reads result (text_faults (codes "policies." ++ name.now) (λ text. is_some (action_of text)) (as_str (view value.now)))
+    ensures { Reads result
+        (text_faults (codes "policies." ++ name.now) (λ text. is_some (action_of text))
+            (as_str (view value.now)))
         (unwrap_or (option_and_then action_of (as_str (view value.now))) action.Error) }
 {
     match value {
@@ -45,7 +47,8 @@ fn action_in(alloc: Global, name: &str, value: &Value) -> Result<Action, Setting
 
 /// The policies of a table, in the order of its keys.
 fn policies_within(alloc: Global, table: &Table) -> Result<Policies, SettingsRefusal>
-    ensures reads { Reads result (policy_faults (table_view table.now)) (policies_of (table_view table.now)) }
+    ensures reads { Reads result (policy_faults (table_view table.now))
+        (policies_of (table_view table.now)) }
     ensures sound { IfOk result (λ policies. are_policies policies ≡ true) }
 {
     let mut policies = Items::new(alloc);

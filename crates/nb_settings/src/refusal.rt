@@ -3,7 +3,7 @@ ghost use Rattle.std.specs.Prelude.{◌≡◌, ◌++◌, IfOk};
 ghost use Rattle.nb_settings.specs.Faults.{bad};
 ghost use Rattle.nb_settings.specs.Files.{IsFirst};
 
-use nb_base::{NoMemory, Text};
+use nb_base::{Copied, NoMemory, Text};
 use std::alloc::Global;
 use thiserror::Error;
 
@@ -33,6 +33,16 @@ pub enum SettingsKind {
 pub struct SettingsFault {
     pub key: Text,
     pub kind: SettingsKind,
+}
+
+impl Copied for SettingsFault {
+    fn copy(&self) -> Result<SettingsFault, NoMemory> {
+        let key = self.key.copy()?;
+        Ok(SettingsFault {
+            key,
+            kind: self.kind,
+        })
+    }
 }
 
 /// Why settings weren't read.

@@ -33,7 +33,8 @@ fn queue_in(alloc: Global, name: &str, value: &Value) -> Result<Text, SettingsRe
 
 /// The routes of a table, in the order of its keys.
 fn routes_within(alloc: Global, table: &Table) -> Result<Routes, SettingsRefusal>
-    ensures reads { Reads result (route_faults (table_view table.now)) (routes_of (table_view table.now)) }
+    ensures reads { Reads result (route_faults (table_view table.now))
+        (routes_of (table_view table.now)) }
     ensures sound { IfOk result (λ routes. are_routes routes ≡ true) }
 {
     let mut routes = Items::new(alloc);

@@ -15,7 +15,8 @@ use toml::{Table, Value};
 
 /// The texts of an array.
 fn texts_in(alloc: Global, name: &str, items: &[Value]) -> Result<Names, SettingsRefusal>
-    ensures { Reads result (kind_faults (codes "subscribers." ++ name.now) (items_view items.now)) (texts_of (items_view items.now)) }
+    ensures { Reads result (kind_faults (codes "subscribers." ++ name.now) (items_view items.now))
+        (texts_of (items_view items.now)) }
 {
     let mut texts = Items::new(alloc);
     for item in items {
@@ -29,7 +30,8 @@ fn texts_in(alloc: Global, name: &str, items: &[Value]) -> Result<Names, Setting
 
 /// The queues of an array.
 fn queues_within(alloc: Global, name: &str, items: &[Value]) -> Result<Names, SettingsRefusal>
-    ensures { Reads result (item_faults (codes "subscribers." ++ name.now) (items_view items.now)) (texts_of (items_view items.now)) }
+    ensures { Reads result (item_faults (codes "subscribers." ++ name.now) (items_view items.now))
+        (texts_of (items_view items.now)) }
 {
     let queues = texts_in(alloc, name, items)?;
     if queues.len() > 16 || !are_all_queues(queues.as_slice()) {
@@ -43,7 +45,9 @@ fn queues_within(alloc: Global, name: &str, items: &[Value]) -> Result<Names, Se
 
 /// The queues that get a copy of a message.
 fn queues_in(alloc: Global, name: &str, value: &Value) -> Result<Names, SettingsRefusal>
-    ensures { Reads result (array_faults (codes "subscribers." ++ name.now) (as_array (view value.now))) (queues_of (view value.now)) }
+    ensures { Reads result
+        (array_faults (codes "subscribers." ++ name.now) (as_array (view value.now)))
+        (queues_of (view value.now)) }
 {
     match value {
         Value::Array(items) => queues_within(alloc, name, items.as_slice()),
@@ -53,7 +57,8 @@ fn queues_in(alloc: Global, name: &str, value: &Value) -> Result<Names, Settings
 
 /// The subscribers of a table, in the order of its keys.
 fn subscribers_within(alloc: Global, table: &Table) -> Result<Subscribers, SettingsRefusal>
-    ensures reads { Reads result (subscriber_faults (table_view table.now)) (subscribers_of (table_view table.now)) }
+    ensures reads { Reads result (subscriber_faults (table_view table.now))
+        (subscribers_of (table_view table.now)) }
     ensures sound { IfOk result (λ subscribers. are_subscribers subscribers ≡ true) }
 {
     let mut subscribers = Items::new(alloc);
@@ -67,7 +72,8 @@ fn subscribers_within(alloc: Global, table: &Table) -> Result<Subscribers, Setti
 
 /// The subscribers, if any are given.
 pub(crate) fn subscribers_in(alloc: Global, root: &Value) -> Result<Subscribers, SettingsRefusal>
-    ensures reads { Reads result (subscriber_faults_at (view root.now)) (subscribers_at (view root.now)) }
+    ensures reads { Reads result (subscriber_faults_at (view root.now))
+        (subscribers_at (view root.now)) }
     ensures sound { IfOk result (λ subscribers. are_subscribers subscribers ≡ true) }
 {
     match root.get("subscribers") {

@@ -47,7 +47,9 @@ fn least_in(
     group: Group,
     value: Option<&Value>,
 ) -> Result<Option<Text>, NoMemory>
-    ensures { IfOk result (λ o. o ≡ least_with best (others_in group (members_of (option_map (λ v. view v.now) value.entry)))) }
+    ensures { IfOk result (λ o. o
+            ≡ least_with best
+            (others_in group (members_of (option_map (λ v. view v.now) value.entry)))) }
 {
     match value {
         Some(Value::Table(table)) => least_within(alloc, best, group, table),
