@@ -198,6 +198,15 @@ known-message items e m fields twice_free is body = of (slice_get (messages item
         let name : m.name ≡ t.name = text-is m.name t.name (sym (incoming-name (declared_names items) e (message_type e (declared_names items)) m is) ∙ name-at (messages items) m.message t so) in
         ap (λ n. fields_of n (messages items)) name ∙ fields-at items m.message t twice_free so ∙ ap Some (sym (decoded-kinds t.fields e.body fields h))
 
+-- A message meets no more blocks than there are.
+pub met-few : (m : Incoming) (n : ℕ) (bs : List BlockTerm) → length (met_from m n bs) ≤ length bs
+met-few m n [] = omega arith
+met-few m n (b ∷ bs) = (let more = met-few m (n + 1) bs in
+    (elim (is_met m b) as (λ y. length (number_if y n ++ met_from m (n + 1) bs) ≤ length (b ∷ bs)) [
+      | true ↦ omega (arith, more)
+      | false ↦ omega (arith, more)
+    ]))
+
 -- A checked script's blocks come to a plan or to a fault of the script.
 pub never-wrong : (items : List ItemTerm) → script_faults items ≡ [] → (e : Message) (at : ℕ) (look : Key → Seen) → FitsLook (sagas items) look → (m : Incoming) (fields : List Field)
     → incoming (declared_names items) e ≡ Some m → body_fields items m.message e.body ≡ Some fields → length (met_from m 0 (blocks items)) < 2 ^ 32 → Fine (handled items m (world_at e fields at look))

@@ -81,7 +81,8 @@ impl Scene {
         saga: Option<Instance>,
         b: &Block,
     ) -> Result<(), Stop>
-        ensures { Does result state.new (in_block saga (tree.block b.now) (world_of self.now) state.old) }
+        ensures { Does result state.new
+            (in_block saga (tree.block b.now) (world_of self.now) state.old) }
     {
         state.saga = saga;
         cut(&mut state.names, 0);
@@ -102,9 +103,12 @@ impl Scene {
         block: u32,
         b: &Block,
     ) -> Result<(), Stop>
-        requires declared { saga_named saga.now.name (sagas (script c.now)) ≡ Some (saga_type (tree.saga saga.now)) }
+        requires declared { saga_named saga.now.name (sagas (script c.now))
+            ≡ Some (saga_type (tree.saga saga.now)) }
         requires fits { FitsLook (sagas (script c.now)) (seen_in self.now.reads) }
-        ensures { Does result state.new (block_does (sagas (script c.now)) block (Finds finder saga.now.name field.now) (tree.block b.now) (world_of self.now) state.old) }
+        ensures { Does result state.new
+            (block_does (sagas (script c.now)) block (Finds finder saga.now.name field.now)
+                (tree.block b.now) (world_of self.now) state.old) }
     {
         let Some(value) = value_in(field, self.fields.as_slice()) else {
             return Err(Stop::Wrong);
@@ -135,9 +139,12 @@ impl Scene {
         block: u32,
         b: &Block,
     ) -> Result<(), Stop>
-        requires declared { saga_named saga.now.name (sagas (script c.now)) ≡ Some (saga_type (tree.saga saga.now)) }
+        requires declared { saga_named saga.now.name (sagas (script c.now))
+            ≡ Some (saga_type (tree.saga saga.now)) }
         requires fits { FitsLook (sagas (script c.now)) (seen_in self.now.reads) }
-        ensures { Does result state.new (block_does (sagas (script c.now)) block (Answers answer saga.now.name) (tree.block b.now) (world_of self.now) state.old) }
+        ensures { Does result state.new
+            (block_does (sagas (script c.now)) block (Answers answer saga.now.name)
+                (tree.block b.now) (world_of self.now) state.old) }
     {
         match by_id(&saga.name, &self.saga_id, self.reads.as_slice()) {
             Some(row) => {
@@ -158,9 +165,12 @@ impl Scene {
         p: &Part,
         block: u32,
     ) -> Result<(), Stop>
-        requires declared { saga_named saga.now.name (sagas (script c.now)) ≡ Some (saga_type (tree.saga saga.now)) }
+        requires declared { saga_named saga.now.name (sagas (script c.now))
+            ≡ Some (saga_type (tree.saga saga.now)) }
         requires fits { FitsLook (sagas (script c.now)) (seen_in self.now.reads) }
-        ensures { Does result state.new (term_does (sagas (script c.now)) block (part_block saga.now.name (tree.part p.now)) (world_of self.now) state.old) }
+        ensures { Does result state.new
+            (term_does (sagas (script c.now)) block (part_block saga.now.name (tree.part p.now))
+                (world_of self.now) state.old) }
     {
         match p {
             Part::ByField {
@@ -187,7 +197,9 @@ impl Scene {
         place: u32,
     ) -> Result<(), Stop>
         requires fits { FitsLook (sagas (script c.now)) (seen_in self.now.reads) }
-        ensures { Does result state.new (at_does (sagas (script c.now)) place (site_block (script c.now) site.now) (world_of self.now) state.old) }
+        ensures { Does result state.new
+            (at_does (sagas (script c.now)) place (site_block (script c.now) site.now)
+                (world_of self.now) state.old) }
     {
         match c.items().get(site.item as usize) {
             Some(Item::Handler { block, .. }) => self.in_block(alloc, state, None, block),
@@ -210,7 +222,9 @@ impl Scene {
         place: u32,
     ) -> Result<(), Stop>
         requires fits { FitsLook (sagas (script c.now)) (seen_in self.now.reads) }
-        ensures { Does result state.new (at_does (sagas (script c.now)) place (slice_get (blocks (script c.now)) number) (world_of self.now) state.old) }
+        ensures { Does result state.new
+            (at_does (sagas (script c.now)) place (slice_get (blocks (script c.now)) number)
+                (world_of self.now) state.old) }
     {
         match c.site(number) {
             Some(site) => self.site_does(alloc, c, state, site, place),
@@ -227,7 +241,9 @@ impl Scene {
         met: &[u32],
     ) -> Result<(), Stop>
         requires fits { FitsLook (sagas (script c.now)) (seen_in self.now.reads) }
-        ensures { Does result state.new (numbers_do (sagas (script c.now)) (blocks (script c.now)) 1 met.now (world_of self.now) state.old) }
+        ensures { Does result state.new
+            (numbers_do (sagas (script c.now)) (blocks (script c.now)) 1 met.now
+                (world_of self.now) state.old) }
     {
         let mut place: u32 = 0;
         for number in met {

@@ -1,7 +1,7 @@
 //! The sagas on which blocks work.
 ghost use Rattle.std.specs.Prelude.{◌≡◌, ◌++◌, nat_abs, true, Some, IfOk, OnOk};
 ghost use Rattle.nb_check.specs.Declarations as declarations;
-ghost use Rattle.nb_check.specs.Declarations.{saga_type, sagas, state_fields, literal_value, default_of, first_value, revision_of};
+ghost use Rattle.nb_check.specs.Declarations.{saga_type, sagas, state_fields, revision_of};
 ghost use Rattle.nb_check.specs.Fits.{fits, saga_named};
 ghost use Rattle.nb_eval.specs.Blocks as spec;
 ghost use Rattle.nb_eval.specs.Blocks.{first_fields, instance_write, ended};
@@ -13,50 +13,10 @@ use crate::scene::{Instance, Scene, State};
 use nb_base::{
     Copied, Field, Fields, Items, NoMemory, SagaRef, SagaRow, Text, Value, Write, Writes,
 };
-use nb_check::Checked;
-use nb_script::item::{FieldKind, Literal, Revision, Saga, SagaField, Since};
+use nb_check::{Checked, first_value};
+use nb_script::item::{Revision, Saga, SagaField};
 use sqlite_items::Items as Rows;
 use std::alloc::Global;
-
-/// The value of a field where nothing else is said.
-fn default_of(alloc: Global, kind: FieldKind) -> Result<Value, NoMemory>
-    ensures { IfOk result (λ v. v ≡ default_of kind) }
-{
-    match kind {
-        FieldKind::Int => Ok(Value::Int(0)),
-        FieldKind::Text => Ok(Value::Text(Text::new(alloc, "")?)),
-        FieldKind::Bool => Ok(Value::Bool(false)),
-    }
-}
-
-fn literal_value(literal: &Literal) -> Result<Value, NoMemory>
-    ensures { IfOk result (λ v. v ≡ literal_value literal.now) }
-{
-    match literal {
-        Literal::Number {
-            minus_at: None,
-            number,
-            ..
-        } => Ok(Value::Int(*number)),
-        // The number of a script isn't negative, so it has a negative.
-        Literal::Number {
-            minus_at: Some(_),
-            number,
-            ..
-        } => Ok(Value::Int(number.checked_neg().ok_or(NoMemory)?)),
-        Literal::Quoted { text, .. } => Ok(Value::Text(text.copy()?)),
-        Literal::Truth { value, .. } => Ok(Value::Bool(*value)),
-    }
-}
-
-fn first_value(alloc: Global, kind: FieldKind, since: &Option<Since>) -> Result<Value, NoMemory>
-    ensures { IfOk result (λ v. v ≡ first_value kind since.now) }
-{
-    match since {
-        None => default_of(alloc, kind),
-        Some(since) => literal_value(&since.literal),
-    }
-}
 
 /// The fields of a new saga.
 fn first_fields(alloc: Global, fields: &[SagaField]) -> Result<Rows<Field>, NoMemory>
@@ -88,7 +48,8 @@ pub(crate) fn stored_instance(
     saga: &Saga,
     row: &SagaRow,
 ) -> Result<Instance, NoMemory>
-    requires declared { saga_named saga.now.name (sagas (script c.now)) ≡ Some (saga_type (tree.saga saga.now)) }
+    requires declared { saga_named saga.now.name (sagas (script c.now))
+        ≡ Some (saga_type (tree.saga saga.now)) }
     requires fits { fits (sagas (script c.now)) saga.now.name row.now ≡ true }
     ensures { IfOk result (λ i. i ≡ spec.stored_instance (saga_type (tree.saga saga.now)) row.now) }
 {
@@ -125,7 +86,9 @@ impl Scene {
         value: &Value,
         block: u32,
     ) -> Result<Instance, NoMemory>
-        ensures { IfOk result (λ i. i ≡ spec.new_instance (saga_type (tree.saga saga.now)) value.now block (world_of self.now)) }
+        ensures { IfOk result (λ i. i
+                ≡ spec.new_instance (saga_type (tree.saga saga.now)) value.now block
+                (world_of self.now)) }
     {
         let name = saga.name.copy()?;
         let property = saga.correlation.name.copy()?;

@@ -8,12 +8,14 @@ mod find;
 mod handling;
 mod instance;
 pub mod laws;
+mod lent;
 mod make;
-pub mod scene;
+mod scene;
 mod stmt;
-pub mod stop;
+mod stop;
 mod values;
 mod verdicts;
 
 pub use handling::Handlers;
+pub use lent::Lent;
 pub use verdicts::evaluate;

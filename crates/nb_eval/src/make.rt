@@ -52,7 +52,8 @@ fn data_of(value: Value) -> Json
 
 /// Adds a field to the members.
 fn add_member(members: &mut Map<String, Json>, f: Field) -> Result<(), NoMemory>
-    ensures { OnOk result (members_view members.new.entries ≡ put f.name (data_of f.value) (members_view members.old.entries)) }
+    ensures { OnOk result (members_view members.new.entries
+            ≡ put f.name (data_of f.value) (members_view members.old.entries)) }
 {
     let Field { name, value } = f;
     members.insert(name.into_string(), data_of(value))?;
@@ -183,7 +184,8 @@ impl Scene {
         state: &State,
         after: &Option<After>,
     ) -> Result<Option<u64>, Stop>
-        ensures { Gives result (delay_of (option_map tree.after after.now) (world_of self.now) state.now) }
+        ensures { Gives result
+            (delay_of (option_map tree.after after.now) (world_of self.now) state.now) }
     {
         match after {
             None => Ok(None),
@@ -220,7 +222,8 @@ impl Scene {
         delay: Option<u64>,
         make: &Make,
     ) -> Result<(), Stop>
-        ensures { Does result state.new (sent target delay (tree.make make.now) (world_of self.now) state.old) }
+        ensures { Does result state.new
+            (sent target delay (tree.make make.now) (world_of self.now) state.old) }
     {
         let fields = self.made(alloc, state, make.args.as_slice())?;
         let name = type_text(alloc, &make.name)?;

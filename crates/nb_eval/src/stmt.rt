@@ -185,7 +185,8 @@ impl Scene {
 
     #[cycle(run)]
     fn otherwise(&self, alloc: Global, state: &mut State, o: &Else) -> Result<(), Stop>
-        ensures { Does result state.new (otherwise (tree.otherwise o.now) (world_of self.now) state.old) }
+        ensures { Does result state.new
+            (otherwise (tree.otherwise o.now) (world_of self.now) state.old) }
     {
         match o {
             Else::Nothing => Ok(()),

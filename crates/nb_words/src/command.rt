@@ -44,8 +44,9 @@ fn command<'a>(alloc: Global) -> Result<clap::Command<'a>, NoMemory>
 
 /// The matches of the words, or nothing where they are refused.
 fn matches_in<'a>(alloc: Global, words: &'a [Text]) -> Result<Option<ArgMatches<'a>>, NoMemory>
-    ensures { IfOk result (λ o. MatchOption o (is_refused words.entry.now ≡ true) (λ m.
-        (is_refused words.entry.now ≡ false) × (rows_of (found_of m) ≡ matches_of cli words.entry.now))) }
+    ensures { IfOk result (λ o. MatchOption o (is_refused words.entry.now ≡ true)
+            (λ m. (is_refused words.entry.now ≡ false)
+                × (rows_of (found_of m) ≡ matches_of cli words.entry.now))) }
 {
     let command = command(alloc)?;
     match command.try_get_matches_from(words) {
@@ -66,7 +67,8 @@ fn text_of<'a>(matches: &ArgMatches<'a>, id: &str) -> Option<&'a str>
 
 /// The number of an option, or what stands for an option that wasn't given.
 fn number_of(matches: &ArgMatches, id: &str, low: u64, high: u64, missing: u64) -> Option<u64>
-    ensures { result ≡ number_or low high missing (first_of id.now (rows_of (found_of matches.now))) }
+    ensures { result ≡ number_or low high missing
+        (first_of id.now (rows_of (found_of matches.now))) }
 {
     match text_of(matches, id) {
         None => Some(missing),

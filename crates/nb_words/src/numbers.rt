@@ -41,7 +41,8 @@ fn is_number(text: &str) -> bool
 /// The value of one to twenty digits, where 64 bits hold it.
 fn value(text: &str) -> Option<u64>
     requires { is_number text.now ≡ true }
-    ensures { result ≡ (if nat_lt (digits_value 10 text.now) (2 ^ 64) then Some (digits_value 10 text.now) else None) }
+    ensures { result ≡ (if nat_lt (digits_value 10 text.now)
+            (2 ^ 64) then Some (digits_value 10 text.now) else None) }
 {
     text.parse::<u64>().ok()
 }
