@@ -120,3 +120,15 @@ impl Copied for u64 {
         Ok(*self)
     }
 }
+
+impl Copied for u32 {
+    fn copy(&self) -> Result<u32, NoMemory> {
+        Ok(*self)
+    }
+}
+
+impl Copied for () {
+    fn copy(&self) -> Result<(), NoMemory> {
+        Ok(())
+    }
+}

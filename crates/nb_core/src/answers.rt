@@ -1,6 +1,6 @@
 //! What the calls of a desk answer.
 
-use nb_base::{Envelope, NoMemory, Reads};
+use nb_base::{Copied, Envelope, NoMemory, Reads};
 use nb_recover::Fail;
 use std::alloc::AllocError;
 use thiserror::Error;
@@ -40,6 +40,38 @@ pub enum Settled {
     Error(Fail),
     /// The message failed, and is given up.
     Discarded(Fail),
+}
+
+impl Copied for Taken {
+    fn copy(&self) -> Result<Taken, NoMemory> {
+        match self {
+            Taken::Got(envelope) => Ok(Taken::Got(envelope.copy()?)),
+            Taken::Nothing => Ok(Taken::Nothing),
+            Taken::Limit => Ok(Taken::Limit),
+        }
+    }
+}
+
+impl Copied for Look {
+    fn copy(&self) -> Result<Look, NoMemory> {
+        match self {
+            Look::Fresh(reads) => Ok(Look::Fresh(reads.copy()?)),
+            Look::Known { sent } => Ok(Look::Known { sent: *sent }),
+        }
+    }
+}
+
+impl Copied for Settled {
+    fn copy(&self) -> Result<Settled, NoMemory> {
+        match self {
+            Settled::Committed(number) => Ok(Settled::Committed(*number)),
+            Settled::Twin { sent } => Ok(Settled::Twin { sent: *sent }),
+            Settled::Again(why) => Ok(Settled::Again(why.copy()?)),
+            Settled::Later(why) => Ok(Settled::Later(why.copy()?)),
+            Settled::Error(why) => Ok(Settled::Error(why.copy()?)),
+            Settled::Discarded(why) => Ok(Settled::Discarded(why.copy()?)),
+        }
+    }
 }
 
 /// Why a call of a desk was refused.

@@ -1,7 +1,7 @@
 //! Histories.
 
 use crate::event::Events;
-use nb_base::{Moment, PostState, Tables};
+use nb_base::{Copied, Moment, NoMemory, PostState, Tables};
 
 /// Where a history begins.
 #[derive(Drop)]
@@ -18,4 +18,25 @@ pub struct Opening {
 pub struct History {
     pub opening: Opening,
     pub events: Events,
+}
+
+impl Copied for Opening {
+    fn copy(&self) -> Result<Opening, NoMemory> {
+        let tables = self.tables.copy()?;
+        let post = self.post.copy()?;
+        Ok(Opening {
+            tables,
+            post,
+            moment: self.moment,
+            workers: self.workers,
+        })
+    }
+}
+
+impl Copied for History {
+    fn copy(&self) -> Result<History, NoMemory> {
+        let opening = self.opening.copy()?;
+        let events = self.events.copy()?;
+        Ok(History { opening, events })
+    }
 }

@@ -1,7 +1,7 @@
 //! States.
 
 use crate::phase::Phase;
-use nb_base::{ByNumber, Discards, Moment, PostState, Tables};
+use nb_base::{ByNumber, Copied, Discards, Moment, NoMemory, PostState, Tables};
 
 /// A state of an endpoint.
 #[derive(Drop)]
@@ -17,4 +17,24 @@ pub struct State {
     pub back: ByNumber<()>,
     /// The messages that were given up by a policy.
     pub discarded: Discards,
+}
+
+impl Copied for State {
+    fn copy(&self) -> Result<State, NoMemory> {
+        let tables = self.tables.copy()?;
+        let post = self.post.copy()?;
+        let phases = self.phases.copy()?;
+        let fails = self.fails.copy()?;
+        let back = self.back.copy()?;
+        let discarded = self.discarded.copy()?;
+        Ok(State {
+            tables,
+            post,
+            moment: self.moment,
+            phases,
+            fails,
+            back,
+            discarded,
+        })
+    }
 }

@@ -27,3 +27,4 @@ pub mod LexBack
 pub mod PrintableText
 pub mod Only
 pub mod Rising
+pub mod Crossing

@@ -19,6 +19,7 @@ pub mod place;
 mod print_script;
 mod printer;
 pub mod script;
+mod sharing;
 mod statements;
 pub mod stmt;
 pub mod tree;
