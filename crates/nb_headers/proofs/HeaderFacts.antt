@@ -1,16 +1,15 @@
 -- What a message still says after headers were set or taken out.
-use Rattle.std.specs.Prelude.{◌≡◌, ◌≢◌, ℕ, List, [], ◌∷◌, Bool, true, false, ◌&&◌, not, bytes_eq, Some, cond, refl, nat_lt, length, unwrap_or}
-use Rattle.std.proofs.Common.{◌∙◌, sym, ap}
-use Rattle.std.specs.Cmp.Lexicographic.{bytes_decides}
+use Rattle.std.specs.Prelude.{◌≡◌, ℕ, List, [], ◌∷◌, Bool, true, false, ◌&&◌, not, bytes_eq, Some, cond, refl, nat_lt, length, unwrap_or}
+use Rattle.std.proofs.Common.{◌∙◌, ap}
 use Rattle.std.specs.List.{list_all}
 use Rattle.std.specs.Option.{option_map_or}
-use Rattle.nb_base.specs.Messages.{Message, Pairs, header, with_header, without_header, has_id, id_name}
-use Rattle.nb_base.specs.MessagesLaws.{header-with_header, header-without_header}
+use Rattle.nb_base.specs.Messages.{Message, Pairs, header, with_header, has_id, id_name}
+use Rattle.nb_base.specs.MessagesLaws.{header-with_header}
 use Rattle.nb_base.specs.declared.settings.Settings.{Settings}
-use Rattle.nb_headers.specs.Faults.{with_headers, without_headers, with_fault, fault_pairs, stripped, failure_names}
-use Rattle.nb_headers.specs.HeaderNames.{failed_q, time_of_failure, processing_endpoint, exception_type, exception_message, retries}
+use Rattle.nb_headers.specs.Faults.{with_headers, with_fault, fault_pairs}
+use Rattle.nb_headers.specs.HeaderNames.{failed_q, time_of_failure, processing_endpoint, exception_type, exception_message}
 use Rattle.nb_headers.specs.Moments.{moment_text}
-use Rattle.nb_headers.specs.Reads.{id_of, failed_queue, round_of, round_in}
+use Rattle.nb_headers.specs.Reads.{id_of, failed_queue}
 
 front : (a b : Bool) → a && b ≡ true → a ≡ true
 front true b h = refl
@@ -31,13 +30,6 @@ header-with_headers hs (p ∷ ps) q other =
     let apart : bytes_eq q p.0 ≡ false = off (bytes_eq q p.0) (front _ _ other) in
     header-with_headers (with_header hs p.0 p.1) ps q (back _ _ other) ∙ header-with_header hs p.0 p.1 q ∙ ap (λ b. cond b (Some p.1) (header hs q)) apart
 
-pub header-without_headers : (hs : Pairs) (names : List (List ℕ)) (q : List ℕ) → list_all (λ n. not (bytes_eq q n)) names ≡ true → header (without_headers hs names) q ≡ header hs q
-header-without_headers hs [] q other = refl
-header-without_headers hs (n ∷ names) q other =
-    let apart : bytes_eq q n ≡ false = off (bytes_eq q n) (front _ _ other) in
-    let differs : n ≢ q = λ e. (let same : bytes_eq q n ≡ true = (bytes_decides q n).1 (sym e) in absurd cc) in
-    header-without_headers (without_header hs n) names q (back _ _ other) ∙ header-without_header hs n q differs
-
 -- ---- a fault
 
 pub id-with_fault : (settings : Settings) (name text : List ℕ) (moment : ℕ) (m : Message) → id_of (with_fault settings name text moment m) ≡ id_of m
@@ -50,24 +42,9 @@ unfolding with_fault
 has_id-with_fault settings name text moment m =
     ap (λ o. option_map_or (λ t. nat_lt 0 (length t)) o false) (header-with_headers m.headers (fault_pairs settings.endpoint (moment_text moment) name text) id_name refl)
 
-pub round-with_fault : (settings : Settings) (name text : List ℕ) (moment : ℕ) (m : Message) → round_of (with_fault settings name text moment m) ≡ round_of m
-unfolding with_fault round_of
-round-with_fault settings name text moment m =
-    ap (λ o. option_map_or round_in o 0) (header-with_headers m.headers (fault_pairs settings.endpoint (moment_text moment) name text) retries refl)
-
 pub failed_queue-with_fault : (settings : Settings) (name text : List ℕ) (moment : ℕ) (m : Message) → failed_queue (with_fault settings name text moment m) ≡ settings.endpoint
 unfolding with_fault failed_queue
 failed_queue-with_fault settings name text moment m =
     let rest : Pairs = (time_of_failure, moment_text moment) ∷ (processing_endpoint, settings.endpoint) ∷ (exception_type, name) ∷ (exception_message, text) ∷ [] in
     ap (λ o. unwrap_or o [])
     (header-with_headers (with_header m.headers failed_q settings.endpoint) rest failed_q refl ∙ header-with_header m.headers failed_q settings.endpoint failed_q)
-
--- ---- a strip
-
-pub id-stripped : (m : Message) → id_of (stripped m) ≡ id_of m
-unfolding stripped id_of
-id-stripped m = ap (λ o. unwrap_or o []) (header-without_headers m.headers failure_names id_name refl)
-
-pub has_id-stripped : (m : Message) → has_id (stripped m).headers ≡ has_id m.headers
-unfolding stripped
-has_id-stripped m = ap (λ o. option_map_or (λ t. nat_lt 0 (length t)) o false) (header-without_headers m.headers failure_names id_name refl)

@@ -21,7 +21,7 @@ fn set_fault(
     text: &str,
 ) -> Result<(), NoMemory>
     ensures { OnOk result (envelope.new
-            ≡ with_all envelope.old (fault_pairs endpoint.now time.now name.now text.now)) }
+        ≡ with_all envelope.old (fault_pairs endpoint.now time.now name.now text.now)) }
 {
     set(alloc, envelope, FAILED_Q, endpoint)?;
     set(alloc, envelope, TIME_OF_FAILURE, time)?;
@@ -65,7 +65,7 @@ pub fn fault_headers(
     moment: Moment,
 ) -> Result<(), NoMemory>
     ensures ok { OnOk result (envelope.new
-            ≡ with_fault settings.now name.now text.now moment envelope.old) }
+        ≡ with_fault settings.now name.now text.now moment envelope.old) }
     ensures err { OnErr result (envelope.new ≡ envelope.old) }
 {
     *envelope = with_fault(alloc, envelope, settings, name, text, moment)?;

@@ -48,7 +48,7 @@ fn push_two(text: &mut String, n: u8) -> Result<(), NoMemory>
 fn push_day(text: &mut String, days: u32) -> Result<(), NoMemory>
     requires { days ≤ 2932896 }
     ensures { OnOk result (string_bytes text.new
-            ≡ string_bytes text.old ++ day_text (civil_of days)) }
+        ≡ string_bytes text.old ++ day_text (civil_of days)) }
 {
     let (year, month, day) = civil_at(days);
     push_two(text, (year / 100) as u8)?;

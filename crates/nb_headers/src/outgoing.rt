@@ -85,7 +85,7 @@ fn describe(alloc: Global, envelope: &mut Envelope, name: &str, time: &str) -> R
 fn common(alloc: Global, incoming: &Envelope, made: &Made) -> Result<Envelope, NoMemory>
     requires { 0 < length made.now.id }
     ensures { IfOk result (λ e. e
-            ≡ record { headers = common incoming.now made.now; body = made.now.body }) }
+        ≡ record { headers = common incoming.now made.now; body = made.now.body }) }
 {
     let time = moment_text(alloc, made.moment)?;
     let body = made.body.copy()?;
@@ -140,8 +140,8 @@ fn name_both(
     id: Option<&Text>,
 ) -> Result<(), NoMemory>
     ensures { OnOk result (envelope.new
-            ≡ with_all envelope.old
-            (to_saga_of (option_copied saga.entry) (option_copied id.entry))) }
+        ≡ with_all envelope.old
+        (to_saga_of (option_copied saga.entry) (option_copied id.entry))) }
 {
     match (saga, id) {
         (Some(saga), Some(id)) => name_addressee(alloc, envelope, saga.as_str(), id.as_str()),
@@ -165,7 +165,7 @@ fn answer_sender(
 /// Marks a timeout, and names the saga that asked for it.
 fn mark_timeout(alloc: Global, envelope: &mut Envelope, saga: &SagaName) -> Result<(), NoMemory>
     ensures { OnOk result (envelope.new
-            ≡ with_all envelope.old (timeout_mark Target.Timeout ++ to_own (Some saga.now))) }
+        ≡ with_all envelope.old (timeout_mark Target.Timeout ++ to_own (Some saga.now))) }
 {
     set(alloc, envelope, IS_SAGA_TIMEOUT_MESSAGE, "True")?;
     name_addressee(alloc, envelope, saga.saga.as_str(), saga.id.as_str())
@@ -180,9 +180,9 @@ fn address(
 ) -> Result<(), NoMemory>
     requires { made.now.target ≡ Target.Timeout → IsSome made.now.saga }
     ensures { OnOk result (envelope.new
-            ≡ with_all envelope.old
-            (timeout_mark made.now.target
-                ++ addressee incoming.now made.now.target made.now.saga)) }
+        ≡ with_all envelope.old
+        (timeout_mark made.now.target
+        ++ addressee incoming.now made.now.target made.now.saga)) }
 {
     match (&made.target, &made.saga) {
         (Target::Timeout, Some(saga)) => mark_timeout(alloc, envelope, saga),

@@ -14,8 +14,9 @@ pub(crate) fn set(
 ) -> Result<(), NoMemory>
     requires { name.now ≢ id_name }
     ensures { OnOk result (envelope.new
-            ≡ record envelope.old { headers = with_header envelope.old.headers name.now text.now
-                }) }
+        ≡ record envelope.old {
+          headers = with_header envelope.old.headers name.now text.now;
+        }) }
 {
     let text = Text::new(alloc, text)?;
     envelope.set_header(alloc, name, text)

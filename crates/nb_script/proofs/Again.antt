@@ -196,10 +196,6 @@ either_kept : (a b c : Bool) → (a || b) ≡ false → (a ≡ false → c ≡ f
 either_kept true b c e f = cc
 either_kept false b c e f = ap (λ x. x || b) (f refl) ∙ e
 
-pub first_kept : (a b : Bool) → (a || b) ≡ false → a ≡ false
-first_kept true b e = cc
-first_kept false b e = refl
-
 -- What binds up to the first level may stand where the second one may, or there is room for parentheses.
 pub data HasRoom (m n room more : ℕ) : Type 0 where
   Bare : m ≤ n → HasRoom m n room more

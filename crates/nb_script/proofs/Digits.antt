@@ -1,6 +1,6 @@
 -- The value of digits, digit by digit.
 use Rattle.std.proofs.Common.{◌≡◌, ℕ, suc, ◌+◌, ◌-◌, ◌*◌, ◌≤◌, ◌<◌, false, List, [], ◌∷◌, drop, take, length, get_or, drop-cons, Some, None, ap, sym, ◌∙◌, arith, if◌then◌else◌}
-use Rattle.std.proofs.lemmas.Bool.{lt-leb, le-leb}
+use Rattle.std.proofs.lemmas.Bool.{lt-leb}
 use Rattle.nb_script.specs.Lexing.{value_after, most, number_of, unescaped, within_quotes}
 
 -- digits only add
@@ -11,11 +11,6 @@ grows n (d ∷ ds) = let more : n * 10 + (d - 48) ≤ value_after (n * 10 + (d -
 -- a value above the greatest number
 pub too_great : (ds : List ℕ) → 9223372036854775807 < value_after 0 ds → None ≡ number_of ds
 too_great ds lt = sym (ap (λ b. if b then Some (value_after 0 ds) else None) (lt-leb (value_after 0 ds) most lt))
-
-pub small_enough : (ds : List ℕ) (n : ℕ) → n ≡ value_after 0 ds → n ≤ 9223372036854775807 → Some n ≡ number_of ds
-small_enough ds n e le =
-    let le' : value_after 0 ds ≤ 9223372036854775807 = omega arith in
-    ap Some e ∙ sym (ap (λ b. if b then Some (value_after 0 ds) else None) (le-leb (value_after 0 ds) most le'))
 
 -- the next digit
 pub next_digit : (ds : List ℕ) (i n : ℕ) → i < length ds → value_after n (drop i ds) ≡ value_after (n * 10 + (get_or ds i 0 - 48)) (drop (i + 1) ds)

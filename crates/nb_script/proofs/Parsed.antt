@@ -7,33 +7,13 @@ use Rattle.nb_script.specs.declared.lexeme.Lexeme.{Lexeme}
 use Rattle.nb_script.specs.declared.fault.Fault.{Fault}
 use Rattle.nb_script.specs.declared.fault.Fault.TheVariants as fault
 use Rattle.nb_script.specs.declared.script.ScriptFault.{ScriptFault}
-use Rattle.nb_script.specs.declared.script.ScriptKind.{ScriptKind}
-use Rattle.nb_script.specs.declared.script.ScriptKind.TheVariants as k
 use Rattle.nb_script.specs.Grammar.{ItemTerm}
 use Rattle.nb_script.specs.declared.lexer.Scanned.{Scanned}
 use Rattle.nb_script.specs.Lexing.{lexed, lexeme_of, lexemes_of}
 use Rattle.nb_script.specs.ReadingScript.{whole}
 use Rattle.nb_script.specs.Answer.{Starts, IsFirstPlace, Spells}
-use Rattle.nb_script.specs.Parsing.{IsText, StandsAt, IsScriptText, IsUnreadable, IsStuck, IsFirstBad, place_of, IsFaultOf, IsFault, IsLexFaultOf, IsLexFault, IsEarlyOf, IsEarly, lex_kind, kind_of}
+use Rattle.nb_script.specs.Parsing.{IsText, StandsAt, IsScriptText, IsUnreadable, IsStuck, place_of, IsFaultOf, IsFault, lex_kind, kind_of}
 use Rattle.nb_script.proofs.First.{found}
-
-early_of : (text : List ℕ) (f : ScriptFault) (kind : ScriptKind) → IsEarlyOf text f kind → IsFaultOf text f kind
-early_of text f k.NoMemory e = e
-early_of text f k.TooLong e = e
-early_of text f k.NotUtf8 e = e
-early_of text f _ e = absurd e
-
-pub early_fault : (text : List ℕ) (f : ScriptFault) → IsEarly text f → IsFault text f
-early_fault text f e = early_of text f f.kind e
-
-early_lex_of : (text : List ℕ) (f : ScriptFault) (kind : ScriptKind) → IsEarlyOf text f kind → IsLexFaultOf text f kind
-early_lex_of text f k.NoMemory e = e
-early_lex_of text f k.TooLong e = e
-early_lex_of text f k.NotUtf8 e = e
-early_lex_of text f _ e = absurd e
-
-pub early_lex_fault : (text : List ℕ) (f : ScriptFault) → IsEarly text f → IsLexFault text f
-early_lex_fault text f e = early_lex_of text f f.kind e
 
 -- a script begins with all of its tokens
 pub spells_starts : (ts : List Lexeme) (s : List ItemTerm) → Spells ts s → Starts ts (length ts)
@@ -47,15 +27,6 @@ bad_of text bad.Number f it = it
 -- no token can be read behind those with which a script begins
 pub unreadable_fault : (text : List ℕ) (b : LexFault) (at : ℕ) (f : ScriptFault) → IsText text → (lexed text).tail ≡ tail.Bad b at → Starts (lexemes_of text) (length (lexemes_of text)) → StandsAt text at f → f.kind ≡ lex_kind b → IsFault text f
 unreadable_fault text b at f is here starts stands kind = subst (λ kind. IsFaultOf text f kind) (sym kind) (bad_of text b f (record { text_is = is; at = at; tail_is = here; before = starts; stands = stands }))
-
-bad_lex_of : (text : List ℕ) (b : LexFault) (f : ScriptFault) → IsFirstBad text b f → IsLexFaultOf text f (lex_kind b)
-bad_lex_of text bad.Token f it = it
-bad_lex_of text bad.Text f it = it
-bad_lex_of text bad.Number f it = it
-
--- the first place at which no token can be read
-pub bad_lex_fault : (text : List ℕ) (b : LexFault) (at : ℕ) (f : ScriptFault) → IsText text → (lexed text).tail ≡ tail.Bad b at → StandsAt text at f → f.kind ≡ lex_kind b → IsLexFault text f
-bad_lex_fault text b at f is here stands kind = subst (λ kind. IsLexFaultOf text f kind) (sym kind) (bad_lex_of text b f (record { text_is = is; at = at; tail_is = here; stands = stands }))
 
 stuck_of : (text : List ℕ) (x : Fault) (f : ScriptFault) → IsStuck text x f → IsFaultOf text f (kind_of x)
 stuck_of text fault.TooDeep f it = it

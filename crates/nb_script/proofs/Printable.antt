@@ -37,9 +37,6 @@ pub both : (a b : Bool) → (a && b) ≡ true → (a ≡ true) × (b ≡ true)
 both true b e = (refl, e)
 both false b e = cc
 
-digit_from : (b : ℕ) → is_digit b ≡ true → 48 ≤ b
-digit_from b e = leb-true 48 b (both (nat_le 48 b) (nat_le b 57) e).0
-
 digit_to : (b : ℕ) → is_digit b ≡ true → b ≤ 57
 digit_to b e = leb-true b 57 (both (nat_le 48 b) (nat_le b 57) e).1
 

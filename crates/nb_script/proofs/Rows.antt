@@ -11,10 +11,6 @@ abbrev pub before : {A : Type 0} → List A → Outcome (List A) → Outcome (Li
 before xs (Ok r) = Ok (xs ++ r.0, r.1)
 before xs (Err e) = Err e
 
-pub nothing_before : {A : Type 0} (r : Outcome (List A)) → before [] r ≡ r
-nothing_before (Ok r) = refl
-nothing_before (Err e) = refl
-
 pub map_push : {X A : Type 0} (f : X → A) (xs : List X) (x : X) → map f (xs ++ x ∷ []) ≡ map f xs ++ f x ∷ []
 map_push f [] x = refl
 map_push f (y ∷ ys) x = ap (λ zs. f y ∷ zs) (map_push f ys x)

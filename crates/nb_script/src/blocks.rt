@@ -29,7 +29,7 @@ impl Parser<'_> {
     pub fn block(&self, room: u32, at: usize) -> Result<(Block, usize), Halt>
         ensures { Gives (λ x. (seen.block x.0, x.1)) result
             (read.block room (read.inside (suc (length self.now.lexemes.now)) room)
-                (slice_get self.now.lexemes.now) at) }
+            (slice_get self.now.lexemes.now) at) }
     {
         let (open_at, next) = self.take_symbol(is_zero(room), Symbol::OpenBrace, at)?;
         let (body, next) = self.inside(room, next)?;
@@ -49,7 +49,7 @@ impl Parser<'_> {
         requires { 0 < room }
         ensures { Gives (λ x. (map phrase x.0, x.1)) result
             ((read.inside (suc (length self.now.lexemes.now)) room).body
-                (slice_get self.now.lexemes.now) at) }
+            (slice_get self.now.lexemes.now) at) }
     {
         self.body(room - 1, at)
     }
@@ -61,7 +61,7 @@ impl Parser<'_> {
         requires { 0 < room }
         ensures { Gives (λ x. (branch_of x.0, x.1)) result
             ((read.inside (suc (length self.now.lexemes.now)) room).branch
-                (slice_get self.now.lexemes.now) at) }
+            (slice_get self.now.lexemes.now) at) }
     {
         self.branch(room - 1, at)
     }
@@ -71,7 +71,7 @@ impl Parser<'_> {
     fn otherwise(&self, room: u32, at: usize) -> Result<(Else, usize), Halt>
         ensures { Gives (λ x. (seen.otherwise x.0, x.1)) result
             (read.alternative room (read.inside (suc (length self.now.lexemes.now)) room)
-                (slice_get self.now.lexemes.now) at) }
+            (slice_get self.now.lexemes.now) at) }
     {
         match self.seen(at) {
             Seen::Key(Keyword::Else) => self.else_part(room, at),
@@ -83,7 +83,7 @@ impl Parser<'_> {
     fn else_part(&self, room: u32, at: usize) -> Result<(Else, usize), Halt>
         ensures { Gives (λ x. (seen.otherwise x.0, x.1)) result
             (read.else_part room (read.inside (suc (length self.now.lexemes.now)) room)
-                (slice_get self.now.lexemes.now) at) }
+            (slice_get self.now.lexemes.now) at) }
     {
         let (place, next) = self.key(Keyword::Else, at)?;
         match self.seen(next) {
@@ -97,7 +97,7 @@ impl Parser<'_> {
     fn else_if(&self, room: u32, place: u32, at: usize) -> Result<(Else, usize), Halt>
         ensures { Gives (λ x. (seen.otherwise x.0, x.1)) result
             (read.else_if room (read.inside (suc (length self.now.lexemes.now)) room) place
-                (slice_get self.now.lexemes.now) at) }
+            (slice_get self.now.lexemes.now) at) }
     {
         let (if_at, next) = self.take_word(is_zero(room), Keyword::If.text(), at)?;
         let (branch, next) = self.inside_branch(room, next)?;
@@ -121,7 +121,7 @@ impl Parser<'_> {
     fn else_block(&self, room: u32, place: u32, at: usize) -> Result<(Else, usize), Halt>
         ensures { Gives (λ x. (seen.otherwise x.0, x.1)) result
             (read.else_block room (read.inside (suc (length self.now.lexemes.now)) room) place
-                (slice_get self.now.lexemes.now) at) }
+            (slice_get self.now.lexemes.now) at) }
     {
         let (block, next) = self.block(room, at)?;
         Ok((Else::Last { at: place, block }, next))
@@ -132,7 +132,7 @@ impl Parser<'_> {
     fn branch(&self, room: u32, at: usize) -> Result<(Branch, usize), Halt>
         ensures { Gives (λ x. (branch_of x.0, x.1)) result
             (read.branch room (read.inside (suc (length self.now.lexemes.now)) room)
-                (slice_get self.now.lexemes.now) at) }
+            (slice_get self.now.lexemes.now) at) }
     {
         let (test, next) = self.expr(room, at)?;
         let (block, next) = self.block(room, next)?;
@@ -150,7 +150,7 @@ impl Parser<'_> {
     fn if_statement(&self, room: u32, at: usize) -> Result<(Stmt, usize), Halt>
         ensures { Gives (λ x. (phrase x.0, x.1)) result
             (read.if_statement room (read.inside (suc (length self.now.lexemes.now)) room)
-                (slice_get self.now.lexemes.now) at) }
+            (slice_get self.now.lexemes.now) at) }
     {
         let (at, next) = self.key(Keyword::If, at)?;
         let (branch, next) = self.branch(room, next)?;
@@ -172,8 +172,8 @@ impl Parser<'_> {
     fn statement_of(&self, room: u32, keyword: Keyword, at: usize) -> Result<(Stmt, usize), Halt>
         ensures { Gives (λ x. (phrase x.0, x.1)) result
             (read.statement_of (suc (length self.now.lexemes.now)) room
-                (read.inside (suc (length self.now.lexemes.now)) room) keyword
-                (slice_get self.now.lexemes.now) at) }
+            (read.inside (suc (length self.now.lexemes.now)) room) keyword
+            (slice_get self.now.lexemes.now) at) }
     {
         match keyword {
             Keyword::Let => self.let_statement(room, at),
@@ -200,8 +200,8 @@ impl Parser<'_> {
     fn statement(&self, room: u32, at: usize) -> Result<(Stmt, usize), Halt>
         ensures { Gives (λ x. (phrase x.0, x.1)) result
             (read.statement (suc (length self.now.lexemes.now)) room
-                (read.inside (suc (length self.now.lexemes.now)) room)
-                (slice_get self.now.lexemes.now) at) }
+            (read.inside (suc (length self.now.lexemes.now)) room)
+            (slice_get self.now.lexemes.now) at) }
     {
         match self.seen(at) {
             Seen::Key(keyword) => self.statement_of(room, keyword, at),
@@ -214,9 +214,9 @@ impl Parser<'_> {
     fn body(&self, room: u32, at: usize) -> Result<(Items<Stmt>, usize), Halt>
         ensures { Gives (λ x. (map phrase x.0, x.1)) result
             (step.many (suc (length self.now.lexemes.now)) step.closes step.always
-                (read.statement (suc (length self.now.lexemes.now)) room
-                    (read.inside (suc (length self.now.lexemes.now)) room))
-                (slice_get self.now.lexemes.now) at) }
+            (read.statement (suc (length self.now.lexemes.now)) room
+            (read.inside (suc (length self.now.lexemes.now)) room))
+            (slice_get self.now.lexemes.now) at) }
     {
         let mut body = Items::new(self.alloc);
         let mut here = at;

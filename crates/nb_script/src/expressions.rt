@@ -223,7 +223,7 @@ impl Parser<'_> {
     ) -> Result<(Counted, usize), Halt>
         ensures value { Gives (λ x. (tree x.0.expr, x.1)) result
             (read.keyed (is_zero room) (read.deeper room) left keyword
-                (slice_get self.now.lexemes.now) at) }
+            (slice_get self.now.lexemes.now) at) }
         ensures count { IfOk result (λ x. x.0.left ≡ left - operators (tree x.0.expr)) }
     {
         let (expr, next) = match keyword {
@@ -272,7 +272,7 @@ impl Parser<'_> {
     fn parens(&self, room: u32, left: u32, at: usize) -> Result<(Counted, usize), Halt>
         ensures value { Gives (λ x. (tree x.0.expr, x.1)) result
             (read.parens (is_zero room) (read.deeper room) left
-                (slice_get self.now.lexemes.now) at) }
+            (slice_get self.now.lexemes.now) at) }
         ensures count { IfOk result (λ x. x.0.left ≡ left - operators (tree x.0.expr)) }
     {
         let (open_at, next) = self.take_symbol(is_zero(room), Symbol::Open, at)?;
@@ -291,7 +291,7 @@ impl Parser<'_> {
     fn signed(&self, room: u32, left: u32, op: Unary, at: usize) -> Result<(Counted, usize), Halt>
         ensures value { Gives (λ x. (tree x.0.expr, x.1)) result
             (read.signed (is_zero room) (read.deeper room) left op
-                (slice_get self.now.lexemes.now) at) }
+            (slice_get self.now.lexemes.now) at) }
         ensures count { IfOk result (λ x. x.0.left ≡ left - operators (tree x.0.expr)) }
     {
         let past = is_zero(room) || is_zero(left);
@@ -317,7 +317,7 @@ impl Parser<'_> {
     ) -> Result<(Counted, usize), Halt>
         ensures value { Gives (λ x. (tree x.0.expr, x.1)) result
             (read.call (is_zero room) (read.deeper room) left function
-                (slice_get self.now.lexemes.now) at) }
+            (slice_get self.now.lexemes.now) at) }
         ensures count { IfOk result (λ x. x.0.left ≡ left - operators (tree x.0.expr)) }
     {
         let (place, next) = self.function_word(function, at)?;
@@ -336,7 +336,7 @@ impl Parser<'_> {
     ) -> Result<(Counted, usize), Halt>
         ensures value { Gives (λ x. (tree x.0.expr, x.1)) result
             (read.argument (is_zero room) (read.deeper room) left function place
-                (slice_get self.now.lexemes.now) at) }
+            (slice_get self.now.lexemes.now) at) }
         ensures count { IfOk result (λ x. x.0.left ≡ left - operators (tree x.0.expr)) }
     {
         let (open_at, next) = self.take_symbol(is_zero(room), Symbol::Open, at)?;
@@ -400,9 +400,9 @@ impl Parser<'_> {
         requires { below ≤ 4 }
         ensures value { Gives (λ x. (tree x.0.expr, x.1)) result
             (read.joined first.left (read.climb below (read.operand room)) (tree first.expr) op
-                (slice_get self.now.lexemes.now) at) }
+            (slice_get self.now.lexemes.now) at) }
         ensures count { IfOk result (λ x. x.0.left
-                ≡ first.left - (operators (tree x.0.expr) - operators (tree first.expr))) }
+            ≡ first.left - (operators (tree x.0.expr) - operators (tree first.expr))) }
         ensures more { IfOk result (λ x. operators (tree first.expr) < operators (tree x.0.expr)) }
     {
         let past = is_zero(first.left);
@@ -433,7 +433,7 @@ impl Parser<'_> {
         requires count { first.left ≡ left - operators (tree first.expr) }
         ensures value { Gives (λ x. (tree x.0.expr, x.1)) result
             (read.chain (suc left) level (read.climb (level - 1) (read.operand room)) left
-                (tree first.expr) (slice_get self.now.lexemes.now) at) }
+            (tree first.expr) (slice_get self.now.lexemes.now) at) }
         ensures count { IfOk result (λ x. x.0.left ≡ left - operators (tree x.0.expr)) }
     {
         let mut so_far = first;

@@ -30,7 +30,7 @@ pub struct MessageField {
     pub comma_at: Option<u32>,
 }
 
-/// The value of a field in the rows that were stored before it was there.
+/// The value of a field in a new saga, and in the rows that were stored before the field was there.
 #[derive(Debug, Drop)]
 pub enum Literal {
     /// With a minus in front, or without. The number isn't negative.

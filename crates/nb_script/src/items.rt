@@ -125,7 +125,7 @@ impl Parser<'_> {
     fn message_fields(&self, at: usize) -> Result<(Items<MessageField>, usize), Halt>
         ensures { Gives (λ x. x) result
             (step.many (suc (length self.now.lexemes.now)) step.closes message_field_goes_on
-                read.message_field (slice_get self.now.lexemes.now) at) }
+            read.message_field (slice_get self.now.lexemes.now) at) }
     {
         let mut fields = Items::new(self.alloc);
         let mut here = at;
@@ -239,7 +239,7 @@ impl Parser<'_> {
     fn saga_fields(&self, at: usize) -> Result<(Items<SagaField>, usize), Halt>
         ensures { Gives (λ x. x) result
             (step.many (suc (length self.now.lexemes.now)) step.closes saga_field_goes_on
-                read.saga_field (slice_get self.now.lexemes.now) at) }
+            read.saga_field (slice_get self.now.lexemes.now) at) }
     {
         let mut fields = Items::new(self.alloc);
         let mut here = at;
@@ -300,8 +300,8 @@ impl Parser<'_> {
     fn by_field(&self, room: u32, finder: Finder, at: usize) -> Result<(Part, usize), Halt>
         ensures { Gives (λ x. (part x.0, x.1)) result
             (read.by_field (suc (length self.now.lexemes.now)) room
-                (read.inside (suc (length self.now.lexemes.now)) room) finder
-                (slice_get self.now.lexemes.now) at) }
+            (read.inside (suc (length self.now.lexemes.now)) room) finder
+            (slice_get self.now.lexemes.now) at) }
     {
         let (at, next) = self.finder_word(finder, at)?;
         let (name, next) = self.type_name(next)?;
@@ -324,8 +324,8 @@ impl Parser<'_> {
     fn by_id(&self, room: u32, answer: Answer, at: usize) -> Result<(Part, usize), Halt>
         ensures { Gives (λ x. (part x.0, x.1)) result
             (read.by_id (suc (length self.now.lexemes.now)) room
-                (read.inside (suc (length self.now.lexemes.now)) room) answer
-                (slice_get self.now.lexemes.now) at) }
+            (read.inside (suc (length self.now.lexemes.now)) room) answer
+            (slice_get self.now.lexemes.now) at) }
     {
         let (at, next) = self.answer_word(answer, at)?;
         let (name, next) = self.type_name(next)?;
@@ -343,8 +343,8 @@ impl Parser<'_> {
     fn part(&self, room: u32, at: usize) -> Result<(Part, usize), Halt>
         ensures { Gives (λ x. (part x.0, x.1)) result
             (read.part (suc (length self.now.lexemes.now)) room
-                (read.inside (suc (length self.now.lexemes.now)) room)
-                (slice_get self.now.lexemes.now) at) }
+            (read.inside (suc (length self.now.lexemes.now)) room)
+            (slice_get self.now.lexemes.now) at) }
     {
         match self.seen(at) {
             Seen::Key(Keyword::Start) => self.by_field(room, Finder::Start, at),
@@ -359,9 +359,9 @@ impl Parser<'_> {
     fn parts(&self, room: u32, at: usize) -> Result<(Items<Part>, usize), Halt>
         ensures { Gives (λ x. (map part x.0, x.1)) result
             (step.many (suc (length self.now.lexemes.now)) step.closes step.always
-                (read.part (suc (length self.now.lexemes.now)) room
-                    (read.inside (suc (length self.now.lexemes.now)) room))
-                (slice_get self.now.lexemes.now) at) }
+            (read.part (suc (length self.now.lexemes.now)) room
+            (read.inside (suc (length self.now.lexemes.now)) room))
+            (slice_get self.now.lexemes.now) at) }
     {
         let mut parts = Items::new(self.alloc);
         let mut here = at;
@@ -400,8 +400,8 @@ impl Parser<'_> {
     fn handler(&self, room: u32, at: usize) -> Result<(Item, usize), Halt>
         ensures { Gives (λ x. (item x.0, x.1)) result
             (read.handler (suc (length self.now.lexemes.now)) room
-                (read.inside (suc (length self.now.lexemes.now)) room)
-                (slice_get self.now.lexemes.now) at) }
+            (read.inside (suc (length self.now.lexemes.now)) room)
+            (slice_get self.now.lexemes.now) at) }
     {
         let (at, next) = self.key(Keyword::Handler, at)?;
         let (name, next) = self.type_name(next)?;
@@ -440,8 +440,8 @@ impl Parser<'_> {
     fn saga(&self, room: u32, at: usize) -> Result<(Item, usize), Halt>
         ensures { Gives (λ x. (item x.0, x.1)) result
             (read.saga (suc (length self.now.lexemes.now)) room
-                (read.inside (suc (length self.now.lexemes.now)) room)
-                (slice_get self.now.lexemes.now) at) }
+            (read.inside (suc (length self.now.lexemes.now)) room)
+            (slice_get self.now.lexemes.now) at) }
     {
         let (head, next) = self.head(at)?;
         let (fields, next) = self.saga_fields(next)?;
@@ -470,8 +470,8 @@ impl Parser<'_> {
     fn item(&self, room: u32, at: usize) -> Result<(Item, usize), Halt>
         ensures { Gives (λ x. (item x.0, x.1)) result
             (read.item (suc (length self.now.lexemes.now)) room
-                (read.inside (suc (length self.now.lexemes.now)) room)
-                (slice_get self.now.lexemes.now) at) }
+            (read.inside (suc (length self.now.lexemes.now)) room)
+            (slice_get self.now.lexemes.now) at) }
     {
         match self.seen(at) {
             Seen::Key(Keyword::Message) => self.message(at),
@@ -491,9 +491,9 @@ impl Parser<'_> {
     fn items(&self, room: u32, at: usize) -> Result<(Items<Item>, usize), Halt>
         ensures { Gives (λ x. (map item x.0, x.1)) result
             (step.many (suc (length self.now.lexemes.now)) read.is_end step.always
-                (read.item (suc (length self.now.lexemes.now)) room
-                    (read.inside (suc (length self.now.lexemes.now)) room))
-                (slice_get self.now.lexemes.now) at) }
+            (read.item (suc (length self.now.lexemes.now)) room
+            (read.inside (suc (length self.now.lexemes.now)) room))
+            (slice_get self.now.lexemes.now) at) }
     {
         let mut items = Items::new(self.alloc);
         let mut here = at;
@@ -513,7 +513,7 @@ impl Parser<'_> {
     pub fn whole(&self, room: u32) -> Result<(Items<Item>, usize), Halt>
         ensures { Gives (λ x. (map item x.0, x.1)) result
             (read.whole (suc (length self.now.lexemes.now)) room
-                (slice_get self.now.lexemes.now) 0) }
+            (slice_get self.now.lexemes.now) 0) }
     {
         let (items, next) = self.items(room, 0)?;
         if self.ends(next) {

@@ -140,7 +140,7 @@ impl Line {
     // Arguments, each behind a comma.
     fn more_args(&mut self, args: &[Arg]) -> Result<(), NoMemory>
         ensures { OnOk result (self.new
-                ≡ self.old ++ (spec.all_of (spec.behind_comma spec.arg) (map seen.arg args.now))) }
+            ≡ self.old ++ (spec.all_of (spec.behind_comma spec.arg) (map seen.arg args.now))) }
     {
         for arg in args {
             self.symbol(Symbol::Comma)?;
@@ -151,7 +151,7 @@ impl Line {
 
     fn args(&mut self, args: &[Arg]) -> Result<(), NoMemory>
         ensures { OnOk result (self.new
-                ≡ self.old ++ (spec.listed spec.arg (map seen.arg args.now))) }
+            ≡ self.old ++ (spec.listed spec.arg (map seen.arg args.now))) }
     {
         match args {
             [] => Ok(()),

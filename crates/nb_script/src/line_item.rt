@@ -21,7 +21,7 @@ impl Line {
     // Fields of a message, each behind a comma.
     fn more_message_fields(&mut self, fields: &[MessageField]) -> Result<(), NoMemory>
         ensures { OnOk result (self.new
-                ≡ self.old ++ spec.all_of (spec.behind_comma spec.message_field) fields.now) }
+            ≡ self.old ++ spec.all_of (spec.behind_comma spec.message_field) fields.now) }
     {
         for field in fields {
             self.symbol(Symbol::Comma)?;
@@ -94,7 +94,7 @@ impl Line {
     // Fields of a saga, each behind a comma.
     fn more_saga_fields(&mut self, fields: &[SagaField]) -> Result<(), NoMemory>
         ensures { OnOk result (self.new
-                ≡ self.old ++ spec.all_of (spec.behind_comma spec.saga_field) fields.now) }
+            ≡ self.old ++ spec.all_of (spec.behind_comma spec.saga_field) fields.now) }
     {
         for field in fields {
             self.symbol(Symbol::Comma)?;
@@ -159,7 +159,7 @@ impl Line {
 
     fn parts(&mut self, parts: &[Part]) -> Result<(), NoMemory>
         ensures { OnOk result (self.new
-                ≡ self.old ++ spec.all_of spec.part (map seen.part parts.now)) }
+            ≡ self.old ++ spec.all_of spec.part (map seen.part parts.now)) }
     {
         for part in parts {
             self.part(part)?;

@@ -38,7 +38,7 @@ impl Line {
 
     fn delay(&mut self, after: &Option<After>) -> Result<(), NoMemory>
         ensures { OnOk result (self.new
-                ≡ self.old ++ spec.delay (option_map seen.after after.now)) }
+            ≡ self.old ++ spec.delay (option_map seen.after after.now)) }
     {
         match after {
             None => Ok(()),
@@ -61,7 +61,7 @@ impl Line {
     // A keyword, a word, and what it gets.
     fn assignment(&mut self, keyword: Keyword, name: &str, value: &Expr) -> Result<(), NoMemory>
         ensures { OnOk result (self.new
-                ≡ self.old ++ spec.assignment keyword name.now (seen.tree value.now)) }
+            ≡ self.old ++ spec.assignment keyword name.now (seen.tree value.now)) }
     {
         self.key(keyword)?;
         self.word(name)?;
@@ -166,7 +166,7 @@ impl Line {
     #[cycle(statement)]
     fn alternative(&mut self, otherwise: &Else) -> Result<(), NoMemory>
         ensures { OnOk result (self.new
-                ≡ self.old ++ spec.alternative (seen.otherwise otherwise.now)) }
+            ≡ self.old ++ spec.alternative (seen.otherwise otherwise.now)) }
     {
         match otherwise {
             Else::Nothing => Ok(()),

@@ -43,7 +43,7 @@ pub fn print(alloc: Global, script: &Script) -> Result<Text, NoMemory>
     ensures text { IfOk result (λ t. t ≡ printed (items_of script.now)) }
     ensures tokens { (f : ℕ → ℕ) → ∥ IsRespelled f (items_of script.now) ∥₁ }
     ensures back { IfOk result (λ t. length t ≤ MOST_BYTES
-            → ∥ IsReadBack t (items_of script.now) ∥₁) }
+        → ∥ IsReadBack t (items_of script.now) ∥₁) }
 {
     let mut printer = Printer::new(alloc);
     printer.items(alloc, script.items())?;

@@ -74,7 +74,7 @@ impl Parser<'_> {
     fn others(&self, at: usize) -> Result<(Items<Dotted>, usize), Halt>
         ensures { Gives (λ x. x) result
             (step.many (suc (length self.now.lexemes.now)) read.no_dot step.always read.dotted
-                (slice_get self.now.lexemes.now) at) }
+            (slice_get self.now.lexemes.now) at) }
     {
         let mut others = Items::new(self.alloc);
         let mut here = at;
@@ -94,7 +94,7 @@ impl Parser<'_> {
     pub fn type_name(&self, at: usize) -> Result<(TypeName, usize), Halt>
         ensures { Gives (λ x. x) result
             (read.type_name (suc (length self.now.lexemes.now))
-                (slice_get self.now.lexemes.now) at) }
+            (slice_get self.now.lexemes.now) at) }
     {
         let ((at, name), next) = self.name(at)?;
         let (others, next) = self.others(next)?;
@@ -138,7 +138,7 @@ impl Parser<'_> {
     fn args(&self, room: u32, at: usize) -> Result<(Items<Arg>, usize), Halt>
         ensures { Gives (λ x. (map seen.arg x.0, x.1)) result
             (step.many (suc (length self.now.lexemes.now)) step.closes arg_goes_on (read.arg room)
-                (slice_get self.now.lexemes.now) at) }
+            (slice_get self.now.lexemes.now) at) }
     {
         let mut args = Items::new(self.alloc);
         let mut here = at;
@@ -162,7 +162,7 @@ impl Parser<'_> {
     pub fn make(&self, room: u32, at: usize) -> Result<(Make, usize), Halt>
         ensures { Gives (λ x. (seen.make x.0, x.1)) result
             (read.make (suc (length self.now.lexemes.now)) room
-                (slice_get self.now.lexemes.now) at) }
+            (slice_get self.now.lexemes.now) at) }
     {
         let (name, next) = self.type_name(at)?;
         let (open_at, next) = self.symbol(Symbol::OpenBrace, next)?;
@@ -315,7 +315,7 @@ impl Parser<'_> {
     ) -> Result<(Stmt, usize), Halt>
         ensures { Gives (λ x. (phrase x.0, x.1)) result
             (read.sent (suc (length self.now.lexemes.now)) room (option_map seen.after delay) to
-                (slice_get self.now.lexemes.now) at) }
+            (slice_get self.now.lexemes.now) at) }
     {
         let (at, next) = self.destination_word(to, at)?;
         let (make, next) = self.make(room, next)?;
@@ -344,8 +344,8 @@ impl Parser<'_> {
     fn sent_by(&self, room: u32, delay: Option<After>, at: usize) -> Result<(Stmt, usize), Halt>
         ensures { Gives (λ x. (phrase x.0, x.1)) result
             (step.by_seen
-                (read.sent_by (suc (length self.now.lexemes.now)) room
-                    (option_map seen.after delay)) (slice_get self.now.lexemes.now) at) }
+            (read.sent_by (suc (length self.now.lexemes.now)) room
+            (option_map seen.after delay)) (slice_get self.now.lexemes.now) at) }
     {
         match self.seen(at) {
             Seen::Key(Keyword::Send) => self.sent(room, delay, Destination::Route, at),
@@ -358,7 +358,7 @@ impl Parser<'_> {
     pub(crate) fn after_statement(&self, room: u32, at: usize) -> Result<(Stmt, usize), Halt>
         ensures { Gives (λ x. (phrase x.0, x.1)) result
             (read.after_statement (suc (length self.now.lexemes.now)) room
-                (slice_get self.now.lexemes.now) at) }
+            (slice_get self.now.lexemes.now) at) }
     {
         let (delay, next) = self.after(room, at)?;
         self.sent_by(room, Some(delay), next)
@@ -368,7 +368,7 @@ impl Parser<'_> {
     pub(crate) fn publish_statement(&self, room: u32, at: usize) -> Result<(Stmt, usize), Halt>
         ensures { Gives (λ x. (phrase x.0, x.1)) result
             (read.publish_statement (suc (length self.now.lexemes.now)) room
-                (slice_get self.now.lexemes.now) at) }
+            (slice_get self.now.lexemes.now) at) }
     {
         let (at, next) = self.key(Keyword::Publish, at)?;
         let (make, next) = self.make(room, next)?;
@@ -393,7 +393,7 @@ impl Parser<'_> {
     pub(crate) fn reply_statement(&self, room: u32, at: usize) -> Result<(Stmt, usize), Halt>
         ensures { Gives (λ x. (phrase x.0, x.1)) result
             (read.reply_statement (suc (length self.now.lexemes.now)) room
-                (slice_get self.now.lexemes.now) at) }
+            (slice_get self.now.lexemes.now) at) }
     {
         let (at, next) = self.key(Keyword::Reply, at)?;
         let (originator_at, next) = self.originator(next)?;
@@ -412,7 +412,7 @@ impl Parser<'_> {
     pub(crate) fn timeout_statement(&self, room: u32, at: usize) -> Result<(Stmt, usize), Halt>
         ensures { Gives (λ x. (phrase x.0, x.1)) result
             (read.timeout_statement (suc (length self.now.lexemes.now)) room
-                (slice_get self.now.lexemes.now) at) }
+            (slice_get self.now.lexemes.now) at) }
     {
         let (at, next) = self.key(Keyword::Timeout, at)?;
         let (delay, next) = self.expr(room, next)?;
