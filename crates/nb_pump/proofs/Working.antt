@@ -350,8 +350,10 @@ working_fault moment f v u x r t = ⊎_elim
       own = r.own ++ stop_of f;
       made = made_append v u x r.own (stop_of f) r.made m;
       of_turns = All-append IsOfTurn r.own (stop_of f) r.of_turns (stop_turns f);
-      end = ((λ until. r.leads until (stop_of f) (worked (constants v.fixed) until (state_of u) (stop_of f) (stop_turns f))),
-          stopped_behind (IsSomeSpent x) f v u x r.own (stop_of f) r.standing.owns r.made r.calm (faulted_first f u x r.standing m t.1));
+      end = (
+        (λ until. r.leads until (stop_of f) (worked (constants v.fixed) until (state_of u) (stop_of f) (stop_turns f))),
+        stopped_behind (IsSomeSpent x) f v u x r.own (stop_of f) r.standing.owns r.made r.calm (faulted_first f u x r.standing m t.1),
+      );
     })
     (λ (y : (own : List Event) × All (IsOfLease 0) own × Made u (Take 0 ∷ own ++ stop_of f) x).
     let own : List Event = Take 0 ∷ (y.0 ++ stop_of f) in
@@ -360,8 +362,10 @@ working_fault moment f v u x r t = ⊎_elim
       own = r.own ++ own;
       made = made_append v u x r.own own r.made y.2;
       of_turns = All-append IsOfTurn r.own own r.of_turns turns;
-      end = ((λ until. r.leads until own (worked (constants v.fixed) until (state_of u) own turns)),
-          stopped_behind (IsSomeSpent x) f v u x r.own own r.standing.owns r.made r.calm (faulted_later f u x y.0 r.standing y.1 y.2 t.1));
+      end = (
+        (λ until. r.leads until own (worked (constants v.fixed) until (state_of u) own turns)),
+        stopped_behind (IsSomeSpent x) f v u x r.own own r.standing.owns r.made r.calm (faulted_later f u x y.0 r.standing y.1 y.2 t.1),
+      );
     })
     t.0
 
