@@ -23,8 +23,10 @@ fn text(word: String) -> Result<Text, Status> {
 
 /// The words after the program's own name. A word that is no UTF-8 is refused like an unknown one.
 fn words(rt: &HostRuntime) -> Result<Vec<Text>, Status> {
-    let Ok(args) = env::args(rt) else {
-        return Err(Status::Words);
+    let args = match env::args(rt) {
+        Ok(args) => args,
+        Err(error) if error.kind() == io::ErrorKind::OutOfMemory => return Err(Status::NoMemory),
+        Err(_) => return Err(Status::Words),
     };
     let mut words = Vec::new(rt.alloc());
     for word in args.skip(1) {

@@ -14,8 +14,10 @@ use Rattle.nb_core.specs.declared.history.Opening.{Opening}
 use Rattle.nb_core.specs.declared.state.State.{State}
 use Rattle.nb_endpoint.specs.Asked.{Asked}
 use Rattle.nb_endpoint.specs.Follows.{constants_of, state_in}
-use Rattle.nb_endpoint.specs.Left.{BaseLeft, PostLeft, fixed_in}
-use Rattle.nb_hub.specs.Desks.{DeskStands, Started}
+use Rattle.nb_cells.specs.declared.cells.Cells.{Ghosts}
+use Rattle.nb_endpoint.specs.Left.{AreLeft, fixed_in}
+use Rattle.nb_endpoint.specs.Stores.{DeskStands}
+use Rattle.nb_hub.specs.Desks.{Started}
 use Rattle.nb_hub.specs.Kept.{failed_store}
 use Rattle.nb_hub.specs.Ledgers.{Past, state_at}
 use Rattle.nb_hub.specs.Stores.{MayCome, BaseHolds, PostHolds}
@@ -42,18 +44,18 @@ post_holds now images firm store f g s None c op h = h
 post_holds now images firm store f g s (Some Base) c op h = h
 post_holds now images firm store f g s (Some Post) c op h = (h.0, may_come f g s h.0 c op h.1, h.2, h.3)
 
-module _ {P D : Type 0} (bh : D → Type 0) (bn bi : D → CellMap → Type 0) (bf : D → Type 0) (ph : P → Type 0) (pn pi : P → CellMap → Type 0) (pf : P → Type 0)
-    (a : Asked) (h : History) (q : Past) (base : D) (post : P) (c : constants q.fixed ≡ constants_of a) (o : q.fixed.opening ≡ h.opening) (events : q.events ≡ h.events) (s : state_at q ≡ state_in a h) where
-  pub base_left : (start : Started) → DeskStands bh bn bi bf ph pn pi pf start q base post → BaseLeft bh bn bi bf start.base a h base
-  base_left start k = record {
-    opening = λ honest. subst (λ (x : Opening). table.HasCells start.base x.tables) o (k.base_opening honest);
-    holds = λ honest. base_holds bn bi bf base q.fixed (fixed_in a h) (state_in a h) (failed_store h.events) c o
-        (subst (λ (x : State × List Event). BaseHolds bn bi bf base q.fixed x.0 (failed_store x.1)) (λ i. (s i, events i)) (k.base_stands honest));
-  }
-
-  pub post_left : (start : Started) → DeskStands bh bn bi bf ph pn pi pf start q base post → PostLeft ph pn pi pf start.post a h post
-  post_left start k = record {
-    opening = λ honest. subst (λ (x : Opening). queue.HasCells start.post x.post) o (k.post_opening honest);
-    holds = λ honest. post_holds pn pi pf post q.fixed (fixed_in a h) (state_in a h) (failed_store h.events) c o
-        (subst (λ (x : State × List Event). PostHolds pn pi pf post q.fixed x.0 (failed_store x.1)) (λ i. (s i, events i)) (k.post_stands honest));
+module _ {P D : Type 0} (p : Ghosts P) (d : Ghosts D) (a : Asked) (h : History) (q : Past) (base : D) (post : P)
+    (c : constants q.fixed ≡ constants_of a) (o : q.fixed.opening ≡ h.opening) (events : q.events ≡ h.events) (s : state_at q ≡ state_in a h) where
+  pub are_left : (start : Started) → DeskStands p d start q base post → AreLeft p d start a h post base
+  are_left start k = record {
+    base_left = record {
+      opening = λ honest. subst (λ (x : Opening). table.HasCells start.base x.tables) o (k.base_opening honest);
+      holds = λ honest. base_holds d.now d.images d.firm base q.fixed (fixed_in a h) (state_in a h) (failed_store h.events) c o
+          (subst (λ (x : State × List Event). BaseHolds d.now d.images d.firm base q.fixed x.0 (failed_store x.1)) (λ i. (s i, events i)) (k.base_stands honest));
+    };
+    post_left = record {
+      opening = λ honest. subst (λ (x : Opening). queue.HasCells start.post x.post) o (k.post_opening honest);
+      holds = λ honest. post_holds p.now p.images p.firm post q.fixed (fixed_in a h) (state_in a h) (failed_store h.events) c o
+          (subst (λ (x : State × List Event). PostHolds p.now p.images p.firm post q.fixed x.0 (failed_store x.1)) (λ i. (s i, events i)) (k.post_stands honest));
+    };
   }

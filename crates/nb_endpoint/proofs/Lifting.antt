@@ -1,9 +1,12 @@
 -- What was done for a job, as what the top call promises.
-use Rattle.std.proofs.Common.{◌≡◌, ◌≢◌, ℕ, List, Option, Some, None, refl, sym, ap, ◌∙◌, subst}
-use Rattle.nb_base.specs.Causes.{Rose}
+use Rattle.std.proofs.Common.{◌≡◌, ◌≢◌, ℕ, ◌≤◌, List, Option, Some, None, refl, sym, ap, ◌∙◌, subst, arith}
 use Rattle.std.specs.Prelude.{Ok, IfSome, MatchOption}
+use Rattle.nb_base.specs.Causes.{Rose}
 use Rattle.nb_base.specs.Meanings.{IsMeaning}
+use Rattle.nb_base.specs.declared.sink.Sink as sink
+use Rattle.nb_base.specs.declared.source.Source as source
 use Rattle.nb_cells.specs.Cells.{CellMap}
+use Rattle.nb_cells.specs.declared.cells.Cells.{Ghosts}
 use Rattle.nb_core.specs.Drained.{Drained}
 use Rattle.nb_core.specs.Legal.{Legal, HasRoutes}
 use Rattle.nb_core.specs.Outcome.{Outcome, AreSent}
@@ -11,21 +14,23 @@ use Rattle.nb_core.specs.Standing.{Constants}
 use Rattle.nb_core.specs.declared.history.History.{History}
 use Rattle.nb_core.specs.declared.state.State.{State}
 use Rattle.nb_endpoint.specs.Asked.{Asked, IsAsked, IsMoment, SettingsAre, MessagesAre, IsRefused, Prepares, asked_by}
-use Rattle.nb_endpoint.specs.Sampling.{PrintsSample}
-use Rattle.nb_endpoint.specs.Served.{served_words}
 use Rattle.nb_endpoint.specs.Follows.{Begins, Follows, constants_of, state_in, until_of}
-use Rattle.nb_endpoint.specs.Headline.{Given, Asks, Opens as OpensAt, Acts, ComesTo, SendsAll, Leaves, PrintsAll, PrintsAlone, PrintsFor, Row, Stops, IsDamage}
-use Rattle.nb_endpoint.specs.Left.{BaseLeft, PostLeft, RefusesBase, RefusesPost}
+use Rattle.nb_endpoint.specs.Handed.{Handed, flows}
+use Rattle.nb_endpoint.specs.Headline.{IsDone}
+use Rattle.nb_endpoint.specs.Left.{AreLeft, RefusesBase, RefusesPost}
 use Rattle.nb_endpoint.specs.Prints.{Prints, PrintsNothing}
 use Rattle.nb_endpoint.specs.Rows.{Shows, IsDrained, IsOfStart, Counts, Risen}
-use Rattle.nb_endpoint.specs.Sources.{Flow}
+use Rattle.nb_endpoint.specs.Sampling.{PrintsSample}
+use Rattle.nb_endpoint.specs.Served.{served_words}
+use Rattle.nb_endpoint.specs.Sources.{Flow, Flows}
+use Rattle.nb_endpoint.specs.Stores.{IsRead, Told, TellsOne}
+use Rattle.nb_endpoint.specs.Unbegun.{BothTold, IsDamage, PrintsAlone, PrintsFor, Unbegun, Why}
 use Rattle.nb_endpoint.specs.declared.job.Job.{Job}
 use Rattle.nb_endpoint.specs.declared.status.Status.{Status}
 use Rattle.nb_endpoint.specs.declared.status.Status.TheVariants.{Done, NotDrained, Words, Script, Settings, Input, ReadFault, WriteFault, BaseFault, PostFault, NoMemory, Damaged, Spent}
 use Rattle.nb_endpoint.proofs.Routing.{routes_of}
 use Rattle.nb_endpoint.proofs.Saying.{served}
 use Rattle.nb_hub.specs.Desks.{Started}
-use Rattle.nb_hub.specs.Starting.{TellsOne}
 use Rattle.nb_script.specs.Tree.{script}
 use Rattle.nb_words.specs.Cli.{words_of}
 use Rattle.nb_words.specs.declared.words.Command.{Command}
@@ -34,9 +39,9 @@ use Rattle.nb_words.specs.declared.words.Words.{Words as Said}
 
 -- ---- what is asked for
 
-pub asked : (words : List (List ℕ)) (clock : Option ℕ) (s t l : Flow) (said : Said) (job : Job) → served_words words ≡ Some said → Prepares said clock s t l (Ok job)
-    → IsAsked words clock s t l (asked_by job)
-asked words clock s t l said job h p =
+pub asked : (words : List (List ℕ)) (clock : Option ℕ) (f : Flows) (said : Said) (job : Job) → served_words words ≡ Some said → Prepares said clock f (Ok job)
+    → IsAsked words clock f (asked_by job)
+asked words clock f said job h p =
     let x = served words said h in
     record {
       said_is = x.0 ∙ ap (λ (y : Said). Some y) (sym p.0);
@@ -44,7 +49,7 @@ asked words clock s t l said job h p =
       moment_is = subst (λ (y : Said). IsMoment y.at clock job.moment) (sym p.0) p.1;
       script_is = p.2;
       settings_are = p.3;
-      messages_are = subst (λ (y : Said). MessagesAre y.command l job.messages) (sym p.0) p.4;
+      messages_are = subst (λ (y : Said). MessagesAre y.command f.lines job.messages) (sym p.0) p.4;
     }
 
 pub has_routes : (t : Flow) (job : Job) → SettingsAre t (script job.handlers.checked) job.settings → HasRoutes (constants_of (asked_by job))
@@ -78,159 +83,137 @@ prints_short (Some said) n old new h = alone_short said said.command n old new h
 
 -- ---- what was done
 
-module _ (g : Given) (a : Asked) (asks : Asks g a) where
-  pub opens : (o : Option History) → IfSome o (Begins a) → IfSome o (OpensAt g)
-  opens None h = tt
-  opens (Some x) h = (a, asks, h)
+-- a store that wasn't called
+pub not_called : {C : Type 0} (g : Ghosts C) (store : C) → IsRead g store store
+not_called g store = record {
+  honest_before = λ honest. honest;
+  kept_firm = λ honest firm. firm;
+  kept = λ m honest firm now. now;
+  fewer = λ n honest image. image;
+  later = omega arith;
+}
 
-  pub acts : (status : Status) (o : Option History) → IfSome o (Follows a status) → IfSome o (Acts g status)
-  acts status None h = tt
-  acts status (Some x) h = (a, asks, h)
+-- the laws of legal histories by which the outcome is had
+abbrev pub LawOfOutcome : Type 1
+LawOfOutcome = (c : Constants) (h : History) (s : State) → IsMeaning c.meaning → (legal : Legal c h s) → Outcome legal.run
 
-  pub comes : ((c : Constants) (h : History) (s : State) → IsMeaning c.meaning → (legal : Legal c h s) → Outcome legal.run) → (o : Option History) → IfSome o (Begins a)
-      → IfSome o (λ (h : History). IsMeaning (constants_of a).meaning) → IfSome o (ComesTo g)
-  comes law None begins means = tt
-  comes law (Some h) begins means = (a, asks, (begins.legal, law (constants_of a) h (state_in a h) means begins.legal))
+abbrev pub LawOfSending : Type 1
+LawOfSending = (c : Constants) (h : History) (s : State) (until : ℕ) → (legal : Legal c h s) → Drained c s until → AreSent legal.run until
 
-  pub sends : ((c : Constants) (h : History) (s : State) (until : ℕ) → (legal : Legal c h s) → Drained c s until → AreSent legal.run until) → (status : Status) (o : Option History)
-      → IfSome o (Begins a) → MatchOption o (IsOfStart status) (Shows a status) → IfSome o (SendsAll g status)
-  sends law status None begins shows = tt
-  sends law status (Some h) begins shows =
-      (a, asks, λ run done. (begins.legal, law (constants_of a) h (state_in a h) (until_of a) begins.legal (drained status shows done run)))
-    where
-      drained : (st : Status) → Shows a st h → st ≡ Done → a.said.command ≡ Run → IsDrained a h
-      drained st x done run = (subst (λ (y : Status). Shows a y h) done x).1 run
+module _ {S O P D : Type 0} (s : source.Ghosts S) (o : sink.Ghosts O) (p : Ghosts P) (d : Ghosts D) (x : Handed S O P D) where
+  module _ (a : Asked) (asks : IsAsked x.words x.clock (flows s x) a) where
+    started : (status : Status) → IsOfStart status → ((start : Started) → BothTold p d x start → RefusesBase (constants_of a).meaning start.base status × RefusesPost start.post status) → Why s p d x status
+    started Done h damage = absurd h
+    started (NotDrained takes) h damage = absurd h
+    started Words h damage = absurd h
+    started (Script line column kind) h damage = absurd h
+    started (Settings key kind) h damage = absurd h
+    started (Input line kind) h damage = absurd h
+    started (ReadFault source) h damage = absurd h
+    started WriteFault h damage = absurd h
+    started BaseFault h damage = (a, asks)
+    started PostFault h damage = (a, asks)
+    started NoMemory h damage = tt
+    started (Damaged store space key) h damage = (a, asks, damage)
+    started Spent h damage = absurd h
 
-  pub leaves : {P D : Type 0} (bh : D → Type 0) (bn bi : D → CellMap → Type 0) (bf : D → Type 0) (ph : P → Type 0) (pn pi : P → CellMap → Type 0) (pf : P → Type 0) (start : Started)
-      (base0 base : D) (post0 post : P) (o : Option History)
-      → IfSome o (λ (h : History). TellsOne bn bi bf base0 start.base → TellsOne pn pi pf post0 start.post → BaseLeft bh bn bi bf start.base a h base × PostLeft ph pn pi pf start.post a h post)
-      → IfSome o (λ (h : History). TellsOne bn bi bf base0 start.base → TellsOne pn pi pf post0 start.post → Leaves bh bn bi bf ph pn pi pf g start base post h)
-  leaves bh bn bi bf ph pn pi pf start base0 base post0 post None left = tt
-  leaves bh bn bi bf ph pn pi pf start base0 base post0 post (Some h) left = λ b p. let x = left b p in (a, asks, x.0, x.1)
+    drained : (h : History) (status : Status) → Shows a status h → status ≡ Done → a.said.command ≡ Run → IsDrained a h
+    drained h status shows done run = (subst (λ (y : Status). Shows a y h) done shows).1 run
 
-  pub prints : (status : Status) (o : Option History) (n : ℕ) (old new : Option (List ℕ))
-      → MatchOption o (PrintsNothing n old new) (λ (h : History). Prints status (state_in a h) n old new) → PrintsAll g status o n old new
-  prints status None n old new h = prints_nothing g.words a.said asks.said_is asks.stores status n old new h
-  prints status (Some x) n old new h = (a, asks, h)
+    pub performed : LawOfOutcome → LawOfSending → (history : Option History) → IfSome history (Begins 1 a) → IfSome history (Follows a x.status) → MatchOption history (IsOfStart x.status) (Shows a x.status)
+        → MatchOption history (PrintsNothing x.printed (o.held x.out.before) (o.held x.out.after)) (λ (h : History). Prints x.status (state_in a h) x.printed (o.held x.out.before) (o.held x.out.after))
+        → IfSome history (λ (h : History). IsMeaning (constants_of a).meaning)
+        → ((start : Started) → IfSome history (λ (h : History). TellsOne d x.base.before start.base → TellsOne p x.post.before start.post → AreLeft p d start a h x.post.after x.base.after))
+        → (history ≡ None → IsRead d x.base.before x.base.after) → (history ≡ None → IsRead p x.post.before x.post.after)
+        → ((m : CellMap) → history ≡ None → Told d x.base.before x.base.after m → RefusesBase (constants_of a).meaning m x.status)
+        → ((m : CellMap) → history ≡ None → Told p x.post.before x.post.after m → RefusesPost m x.status)
+        → IsDone s o p d (λ said. 1) x history
+    performed outcome sending None begins follows shows prints means left base post of_base of_post = record {
+      shows = started x.status shows (λ start told. (of_base start.base refl told.base, of_post start.post refl told.post));
+      base_kept = base refl;
+      post_kept = post refl;
+      prints = prints_nothing x.words a.said asks.said_is asks.stores x.status x.printed (o.held x.out.before) (o.held x.out.after) prints;
+    }
+    performed outcome sending (Some h) begins follows shows prints means left base post of_base of_post = (a, record {
+      asks = asks;
+      opens = begins;
+      acts = follows;
+      leaves = λ start tell. left start tell.base tell.post;
+      comes = outcome (constants_of a) h (state_in a h) means begins.legal;
+      sends = λ run done. sending (constants_of a) h (state_in a h) (until_of a h) begins.legal (drained h x.status shows done run);
+      prints = prints;
+      shows = shows;
+    })
 
-  started : (status : Status) → IsOfStart status → Stops g status
-  started Done h = absurd h
-  started (NotDrained takes) h = absurd h
-  started Words h = absurd h
-  started (Script line column kind) h = absurd h
-  started (Settings key kind) h = absurd h
-  started (Input line kind) h = absurd h
-  started (ReadFault source) h = absurd h
-  started WriteFault h = absurd h
-  started BaseFault h = (a, asks)
-  started PostFault h = (a, asks)
-  started NoMemory h = tt
-  started (Damaged store space key) h = (a, asks)
-  started Spent h = absurd h
+  -- ---- what was refused
 
-  pub row : (status : Status) (o : Option History) → MatchOption o (IsOfStart status) (Shows a status) → Row g status o
-  row status None h = started status h
-  row status (Some x) h = (a, asks, h)
+  why_refused : (said : Said) (status : Status) → served_words x.words ≡ Some said → IsRefused said.command (flows s x) status → Why s p d x status
+  why_refused said Done h r = absurd r
+  why_refused said (NotDrained takes) h r = absurd r
+  why_refused said Words h r = absurd r
+  why_refused said (Script line column kind) h r = (said, h, r)
+  why_refused said (Settings key kind) h r = (said, h, r)
+  why_refused said (Input line kind) h r = (said, h, r)
+  why_refused said (ReadFault source) h r = (said, h, r)
+  why_refused said WriteFault h r = absurd r
+  why_refused said BaseFault h r = absurd r
+  why_refused said PostFault h r = absurd r
+  why_refused said NoMemory h r = tt
+  why_refused said (Damaged store space key) h r = absurd r
+  why_refused said Spent h r = absurd r
 
-  pub damage : (m n : CellMap) (status : Status) → RefusesBase (constants_of a).meaning m status → RefusesPost n status → IsDamage g m n status
-  damage m n Done b p = tt
-  damage m n (NotDrained takes) b p = tt
-  damage m n Words b p = tt
-  damage m n (Script line column kind) b p = tt
-  damage m n (Settings key kind) b p = tt
-  damage m n (Input line kind) b p = tt
-  damage m n (ReadFault source) b p = tt
-  damage m n WriteFault b p = tt
-  damage m n BaseFault b p = tt
-  damage m n PostFault b p = tt
-  damage m n NoMemory b p = tt
-  damage m n (Damaged store space key) b p = (a, asks, b, p)
-  damage m n Spent b p = tt
+  pub unprepared : (said : Said) → served_words x.words ≡ Some said → IsRefused said.command (flows s x) x.status → IsRead d x.base.before x.base.after → IsRead p x.post.before x.post.after
+      → PrintsNothing x.printed (o.held x.out.before) (o.held x.out.after) → Unbegun s o p d x
+  unprepared said h r base post prints =
+      let is = served x.words said h in
+      record {
+        shows = why_refused said x.status h r;
+        base_kept = base;
+        post_kept = post;
+        prints = prints_nothing x.words said is.0 is.1 x.status x.printed (o.held x.out.before) (o.held x.out.after) prints;
+      }
 
--- ---- what was refused
+  -- ---- a sample
 
-pub stops : (g : Given) (said : Said) (status : Status) → served_words g.words ≡ Some said → IsRefused said.command g.script g.settings g.lines status → Stops g status
-stops g said Done h r = absurd r
-stops g said (NotDrained takes) h r = absurd r
-stops g said Words h r = absurd r
-stops g said (Script line column kind) h r = (said, h, r)
-stops g said (Settings key kind) h r = (said, h, r)
-stops g said (Input line kind) h r = (said, h, r)
-stops g said (ReadFault source) h r = (said, h, r)
-stops g said WriteFault h r = absurd r
-stops g said BaseFault h r = absurd r
-stops g said PostFault h r = absurd r
-stops g said NoMemory h r = tt
-stops g said (Damaged store space key) h r = absurd r
-stops g said Spent h r = absurd r
+  module _ (said : Said) (is : words_of x.words ≡ Some said) (sample : said.command ≡ Sample) where
+    why_sample : (status : Status) (n : ℕ) (old new : Option (List ℕ)) → PrintsSample said.seed said.count status n old new → Why s p d x status
+    why_sample Done n old new h = (said, is, sample)
+    why_sample (NotDrained takes) n old new h = absurd h
+    why_sample Words n old new h = absurd h
+    why_sample (Script line column kind) n old new h = absurd h
+    why_sample (Settings key kind) n old new h = absurd h
+    why_sample (Input line kind) n old new h = absurd h
+    why_sample (ReadFault source) n old new h = absurd h
+    why_sample WriteFault n old new h = (said, is, sample)
+    why_sample BaseFault n old new h = absurd h
+    why_sample PostFault n old new h = absurd h
+    why_sample NoMemory n old new h = tt
+    why_sample (Damaged store space key) n old new h = absurd h
+    why_sample Spent n old new h = absurd h
 
-pub refused_damage : (g : Given) (m n : CellMap) (said : Said) (status : Status) → IsRefused said.command g.script g.settings g.lines status → IsDamage g m n status
-refused_damage g m n said Done r = tt
-refused_damage g m n said (NotDrained takes) r = tt
-refused_damage g m n said Words r = tt
-refused_damage g m n said (Script line column kind) r = tt
-refused_damage g m n said (Settings key kind) r = tt
-refused_damage g m n said (Input line kind) r = tt
-refused_damage g m n said (ReadFault source) r = tt
-refused_damage g m n said WriteFault r = tt
-refused_damage g m n said BaseFault r = tt
-refused_damage g m n said PostFault r = tt
-refused_damage g m n said NoMemory r = tt
-refused_damage g m n said (Damaged store space key) r = absurd r
-refused_damage g m n said Spent r = tt
+    pub sampled : PrintsSample said.seed said.count x.status x.printed (o.held x.out.before) (o.held x.out.after) → IsRead d x.base.before x.base.after → IsRead p x.post.before x.post.after → Unbegun s o p d x
+    sampled h base post = record {
+      shows = why_sample x.status x.printed (o.held x.out.before) (o.held x.out.after) h;
+      base_kept = base;
+      post_kept = post;
+      prints = subst (λ (w : Option Said). PrintsFor w x.status x.printed (o.held x.out.before) (o.held x.out.after)) (sym is)
+          (subst (λ (c : Command). PrintsAlone c said x.status x.printed (o.held x.out.before) (o.held x.out.after)) (sym sample) h);
+    }
 
-pub refused_risen : (c : Command) (s t l : Flow) (counts : Counts) (status : Status) → IsRefused c s t l status → Risen status counts
-refused_risen c s t l counts Done r = tt
-refused_risen c s t l counts (NotDrained takes) r = tt
-refused_risen c s t l counts Words r = tt
-refused_risen c s t l counts (Script line column kind) r = tt
-refused_risen c s t l counts (Settings key kind) r = tt
-refused_risen c s t l counts (Input line kind) r = tt
-refused_risen c s t l counts (ReadFault source) r = tt
-refused_risen c s t l counts WriteFault r = absurd r
-refused_risen c s t l counts BaseFault r = absurd r
-refused_risen c s t l counts PostFault r = absurd r
-refused_risen c s t l counts NoMemory r = tt
-refused_risen c s t l counts (Damaged store space key) r = tt
-refused_risen c s t l counts Spent r = tt
-
--- ---- a sample
-
-pub sample_prints : (words : List (List ℕ)) (said : Said) → words_of words ≡ Some said → said.command ≡ Sample → (status : Status) (n : ℕ) (old new : Option (List ℕ))
-    → PrintsSample said.seed said.count status n old new → PrintsFor (words_of words) status n old new
-sample_prints words said is sample status n old new h =
-    subst (λ (o : Option Said). PrintsFor o status n old new) (sym is) (subst (λ (c : Command). PrintsAlone c said status n old new) (sym sample) h)
-
-module _ (g : Given) (said : Said) (is : words_of g.words ≡ Some said) (sample : said.command ≡ Sample) where
-  pub sample_stops : (status : Status) (n : ℕ) (old new : Option (List ℕ)) → PrintsSample said.seed said.count status n old new → Stops g status
-  sample_stops Done n old new h = (said, is, sample)
-  sample_stops (NotDrained takes) n old new h = absurd h
-  sample_stops Words n old new h = absurd h
-  sample_stops (Script line column kind) n old new h = absurd h
-  sample_stops (Settings key kind) n old new h = absurd h
-  sample_stops (Input line kind) n old new h = absurd h
-  sample_stops (ReadFault source) n old new h = absurd h
-  sample_stops WriteFault n old new h = (said, is, sample)
-  sample_stops BaseFault n old new h = absurd h
-  sample_stops PostFault n old new h = absurd h
-  sample_stops NoMemory n old new h = tt
-  sample_stops (Damaged store space key) n old new h = absurd h
-  sample_stops Spent n old new h = absurd h
-
-  pub sample_damage : (a b : CellMap) (status : Status) (n : ℕ) (old new : Option (List ℕ)) → PrintsSample said.seed said.count status n old new → IsDamage g a b status
-  sample_damage a b Done n old new h = tt
-  sample_damage a b (NotDrained takes) n old new h = tt
-  sample_damage a b Words n old new h = tt
-  sample_damage a b (Script line column kind) n old new h = tt
-  sample_damage a b (Settings key kind) n old new h = tt
-  sample_damage a b (Input line kind) n old new h = tt
-  sample_damage a b (ReadFault source) n old new h = tt
-  sample_damage a b WriteFault n old new h = tt
-  sample_damage a b BaseFault n old new h = tt
-  sample_damage a b PostFault n old new h = tt
-  sample_damage a b NoMemory n old new h = tt
-  sample_damage a b (Damaged store space key) n old new h = absurd h
-  sample_damage a b Spent n old new h = tt
+pub refused_risen : (c : Command) (f : Flows) (counts : Counts) (status : Status) → IsRefused c f status → Risen status counts
+refused_risen c f counts Done r = tt
+refused_risen c f counts (NotDrained takes) r = tt
+refused_risen c f counts Words r = tt
+refused_risen c f counts (Script line column kind) r = tt
+refused_risen c f counts (Settings key kind) r = tt
+refused_risen c f counts (Input line kind) r = tt
+refused_risen c f counts (ReadFault source) r = tt
+refused_risen c f counts WriteFault r = absurd r
+refused_risen c f counts BaseFault r = absurd r
+refused_risen c f counts PostFault r = absurd r
+refused_risen c f counts NoMemory r = tt
+refused_risen c f counts (Damaged store space key) r = tt
+refused_risen c f counts Spent r = tt
 
 pub sample_risen : (seed count : ℕ) (c : Counts) (status : Status) (n : ℕ) (old new : Option (List ℕ)) → PrintsSample seed count status n old new
     → (status ≡ WriteFault → Rose c.out_before c.out_after) → Risen status c

@@ -4,7 +4,7 @@ use Rattle.std.specs.Prelude.{Ok, Err, Result, Option}
 use Rattle.std.proofs.Math.Seq.{take-length}
 use Rattle.nb_base.specs.Messages.{Message}
 use Rattle.nb_core.specs.After.{run}
-use Rattle.nb_core.specs.Calls.{View, OwnsAll, IsSpent, state_of}
+use Rattle.nb_core.specs.Calls.{View, OwnsAll, state_of}
 use Rattle.nb_core.specs.Drained.{Drained}
 use Rattle.nb_core.specs.History.{opened}
 use Rattle.nb_core.specs.Legal.{Legal, IsWithin, halted}
@@ -13,7 +13,6 @@ use Rattle.nb_core.specs.Past.{Fixed, IsLegal, constants, history, takes}
 use Rattle.nb_core.specs.Standing.{Constants}
 use Rattle.nb_core.specs.declared.answers.DeskFault.{DeskFault}
 use Rattle.nb_core.specs.declared.answers.DeskFault.TheVariants as desk
-use Rattle.nb_core.specs.declared.call.Call.{Call}
 use Rattle.nb_core.specs.declared.event.Event.{Event}
 use Rattle.nb_core.specs.declared.history.History.{History}
 use Rattle.nb_core.specs.declared.state.State.{State}
@@ -23,7 +22,7 @@ use Rattle.nb_endpoint.specs.Works.{RunIs, PlanIs, Works, IsUnbegun, Does, chore
 use Rattle.nb_endpoint.specs.declared.chore.Chore.{Chore}
 use Rattle.nb_endpoint.specs.declared.chore.Chore.TheVariants as chore
 use Rattle.nb_endpoint.specs.declared.status.Status.{Status}
-use Rattle.nb_endpoint.proofs.Planning.{stop_at_most, planned, unbegun}
+use Rattle.nb_endpoint.proofs.Planning.{no_events, stop_at_most, planned, unbegun}
 use Rattle.nb_endpoint.proofs.Running.{loads_in, none_behind, paced_loads, paced_broken, beginning, keeps_loads, keeps_stop}
 use Rattle.nb_pump.proofs.Views.{made_alone, made_kept}
 use Rattle.nb_pump.specs.Drains.{DrainIs, KeepsLimit}
@@ -69,7 +68,7 @@ works_fixed c messages until r v w x = does_fixed (chore_of c v) messages until 
 -- ---- what the history is
 
 -- the history is what was asked for, from what the hub's one caller saw first to what he sees
-pub record Over (a : Asked) (v w : View) (h : History) : Type 0 where
+pub record Over (workers : ℕ) (a : Asked) (v w : View) (h : History) : Type 0 where
   pub none : v.events ≡ []
   pub events : w.events ≡ h.events
   pub owns : OwnsAll v
@@ -78,11 +77,11 @@ pub record Over (a : Asked) (v w : View) (h : History) : Type 0 where
   pub turns : v.fixed.turns ≡ a.said.turns
   pub opening : v.fixed.opening ≡ h.opening
   pub moment : h.opening.moment ≡ a.moment
-  pub workers : h.opening.workers ≡ 1
+  pub crew : h.opening.workers ≡ workers
   pub legal : IsLegal w.fixed w.events
   pub some : 0 < a.said.turns
 
-module _ (a : Asked) (v w : View) (h : History) (o : Over a v w h) where
+module _ (workers : ℕ) (a : Asked) (v w : View) (h : History) (o : Over workers a v w h) where
   -- the constants and the history, as they are seen at the end
   seen_as : ◌≡◌ {A = Constants × History} (constants w.fixed, history w.fixed w.events) (constants_of a, h)
   seen_as =
@@ -93,10 +92,10 @@ module _ (a : Asked) (v w : View) (h : History) (o : Over a v w h) where
   pub state_is : state_of w ≡ state_in a h
   state_is = ap (λ (x : Constants × History). run x.0 (opened x.1.opening) x.1.events) seen_as
 
-  pub begins : Begins a h
+  pub begins : Begins workers a h
   begins = record {
     moment = o.moment;
-    workers = o.workers;
+    crew = o.crew;
     legal = subst (λ (x : Constants × History). Legal x.0 x.1 (run x.0 (opened x.1.opening) x.1.events)) seen_as o.legal.legal;
     within = subst (λ (x : ℕ × List Event). IsWithin x.0 x.1) (λ i. ((ap (λ (x : Fixed). x.turns) o.same ∙ o.turns) i, o.events i)) o.legal.within;
   }
@@ -108,7 +107,7 @@ module _ (a : Asked) (v w : View) (h : History) (o : Over a v w h) where
   abbrev start_state : State
   start_state = opened h.opening
 
-  broken_events : (status : Status) (f : DeskFault) (until : ℕ) → until ≡ until_of a → (IsThrough status → ⊥) → Goes (loads_of a.messages) (Err f) v w → RunEvents a status h
+  broken_events : (status : Status) (f : DeskFault) (until : ℕ) → until ≡ until_of a h → (IsThrough status → ⊥) → Goes (loads_of a.messages) (Err f) v w → RunEvents a status h
   broken_events status f until same fails g =
       let b = beginning a.messages g.done g.left g.split in
       let events : h.events ≡ loads_of (take b.count a.messages) ++ stop_of f = made_here (g.done ++ stop_of f) g.made ∙ ap (λ (es : List Event). es ++ stop_of f) b.done_is in
@@ -116,7 +115,7 @@ module _ (a : Asked) (v w : View) (h : History) (o : Over a v w h) where
         count = b.count;
         bound = b.bound;
         loaded = ap loads events ∙ loads_in (take b.count a.messages) (stop_of f) ∙ ap (λ (ms : List Message). take b.count a.messages ++ ms) (no_loads f) ∙ append-nil (take b.count a.messages);
-        paced = subst (λ (es : List Event). Pace (constants_of a) (until_of a) loading start_state es) (sym events) (paced_broken (constants_of a) (until_of a) start_state (take b.count a.messages) f);
+        paced = subst (λ (es : List Event). Pace (constants_of a) (until_of a h) loading start_state es) (sym events) (paced_broken (constants_of a) (until_of a h) start_state (take b.count a.messages) f);
         all = λ through. absurd (fails through);
         short = λ less. (stop_of f, events, stop_at_most f);
         limit = subst (λ (es : List Event). KeepsLimit a.said.turns 0 es) (sym events) (keeps_loads a.said.turns 0 (take b.count a.messages) (stop_of f) (keeps_stop a.said.turns 0 f));
@@ -129,7 +128,7 @@ module _ (a : Asked) (v w : View) (h : History) (o : Over a v w h) where
       no_loads desk.Halted = refl
       no_loads desk.NoMemory = refl
 
-  drained_events : (status : Status) (r : Result Bool DeskFault) (u : View) → Goes (loads_of a.messages) (Ok tt) v u → DrainIs (until_of a) releasing r u w → RunEvents a status h
+  drained_events : (status : Status) (r : Result Bool DeskFault) (u : View) → Goes (loads_of a.messages) (Ok tt) v u → DrainIs (until_of a h) releasing r u w → RunEvents a status h
   drained_events status r u g d =
       let loaded_all : loads_of a.messages ≡ g.done ++ [] = g.split ∙ ap (λ (es : List Event). g.done ++ es) g.end.0 in
       let seen : u.events ≡ loads_of a.messages = made_alone v u (g.done ++ []) o.owns g.made ∙ ap (λ (es : List Event). es ++ (g.done ++ [])) o.none ∙ sym loaded_all in
@@ -138,8 +137,8 @@ module _ (a : Asked) (v w : View) (h : History) (o : Over a v w h) where
       let events : h.events ≡ loads_of a.messages ++ d.own = sym o.events ∙ whole ∙ ap (λ (es : List Event). es ++ d.own) seen in
       let c : constants u.fixed ≡ constants_of a = ap constants fixed ∙ o.constants_are in
       let op : u.fixed.opening ≡ h.opening = ap (λ (x : Fixed). x.opening) fixed ∙ o.opening in
-      let behind : Pace (constants_of a) (until_of a) releasing (run (constants_of a) start_state (loads_of a.messages)) d.own =
-      subst (λ (x : Constants × History). Pace x.0 (until_of a) releasing (run x.0 (opened x.1.opening) x.1.events) d.own) (λ i. (c i, record { opening = op i; events = seen i })) d.paced in
+      let behind : Pace (constants_of a) (until_of a h) releasing (run (constants_of a) start_state (loads_of a.messages)) d.own =
+      subst (λ (x : Constants × History). Pace x.0 (until_of a h) releasing (run x.0 (opened x.1.opening) x.1.events) d.own) (λ i. (c i, record { opening = op i; events = seen i })) d.paced in
       let zero : takes u.events ≡ 0 = g.end.4 ∙ ap takes o.none in
       let turns : u.fixed.turns ≡ a.said.turns = ap (λ (x : Fixed). x.turns) fixed ∙ o.turns in
       let some = o.some in
@@ -148,19 +147,19 @@ module _ (a : Asked) (v w : View) (h : History) (o : Over a v w h) where
         count = length a.messages;
         bound = omega arith;
         loaded = ap loads events ∙ loads_in a.messages d.own ∙ ap (λ (ms : List Message). a.messages ++ ms) (none_behind d.paced tt) ∙ append-nil a.messages ∙ sym all;
-        paced = subst (λ (es : List Event). Pace (constants_of a) (until_of a) loading start_state es) (sym events) (paced_loads (constants_of a) (until_of a) start_state a.messages d.own behind);
+        paced = subst (λ (es : List Event). Pace (constants_of a) (until_of a h) loading start_state es) (sym events) (paced_loads (constants_of a) (until_of a h) start_state a.messages d.own behind);
         all = λ through. refl;
         short = λ less. absurd (omega (arith, less));
         limit = subst (λ (es : List Event). KeepsLimit a.said.turns 0 es) (sym events)
             (keeps_loads a.said.turns 0 a.messages d.own (subst (λ (x : ℕ × ℕ). KeepsLimit x.0 x.1 d.own) (λ i. (turns i, zero i)) (d.limit (omega (arith, zero, turns, some)))));
       }
 
-  pub run_events : (status : Status) (r : Result Bool DeskFault) → (IsThrough status → (b : Bool) × (r ≡ Ok b)) → RunIs a.messages (until_of a) r v w → RunEvents a status h
-  run_events status (Ok b) through x = ⊎_elim (λ (bad : ⊥). absurd bad) (λ (y : (u : View) × Goes (loads_of a.messages) (Ok tt) v u × DrainIs (until_of a) releasing (Ok b) u w). drained_events status (Ok b) y.0 y.1 y.2) x
+  pub run_events : (status : Status) (r : Result Bool DeskFault) → (IsThrough status → (b : Bool) × (r ≡ Ok b)) → RunIs a.messages (until_of a h) r v w → RunEvents a status h
+  run_events status (Ok b) through x = ⊎_elim (λ (bad : ⊥). absurd bad) (λ (y : (u : View) × Goes (loads_of a.messages) (Ok tt) v u × DrainIs (until_of a h) releasing (Ok b) u w). drained_events status (Ok b) y.0 y.1 y.2) x
   run_events status (Err f) through x =
       ⊎_elim
-      (λ (g : Goes (loads_of a.messages) (Err f) v w). broken_events status f (until_of a) refl (λ t. differ (through t).1) g)
-      (λ (y : (u : View) × Goes (loads_of a.messages) (Ok tt) v u × DrainIs (until_of a) releasing (Err f) u w). drained_events status (Err f) y.0 y.1 y.2)
+      (λ (g : Goes (loads_of a.messages) (Err f) v w). broken_events status f (until_of a h) refl (λ t. differ (through t).1) g)
+      (λ (y : (u : View) × Goes (loads_of a.messages) (Ok tt) v u × DrainIs (until_of a h) releasing (Err f) u w). drained_events status (Err f) y.0 y.1 y.2)
       x
     where
       differ : {b : Bool} → Err f ≡ Ok b → ⊥
@@ -178,16 +177,16 @@ module _ (a : Asked) (v w : View) (h : History) (o : Over a v w h) where
       differ : {A : Type 0} {b : Bool} → Err f ≡ Ok b → A
       differ e = absurd cc
 
-  opens_as : ◌≡◌ {A = Constants × State} (constants v.fixed, state_of v) (constants_of a, opened h.opening)
+  pub opens_as : ◌≡◌ {A = Constants × State} (constants v.fixed, state_of v) (constants_of a, opened h.opening)
   opens_as =
       let c = o.constants_are in
       let op = o.opening in
       λ i. (c i, run (c i) (opened (op i)) (o.none i))
 
   pub follows : (c : Command) → a.said.command ≡ c → (status : Status) (r : Result Bool DeskFault) → (IsThrough status → (b : Bool) × (r ≡ Ok b)) → c ≢ command.Sample
-      → Works c a.messages (until_of a) r v w → FollowsAs c a status h
+      → Works c a.messages (until_of a h) r v w → FollowsAs c a status h
   follows command.Run is status r through built x = run_events status r through x
-  follows command.Show is status r through built x = plan_events [] status r through x
+  follows command.Show is status r through built x = no_events r v w h o.owns o.none o.events x
   follows command.Retry is status r through built x =
       subst (λ (y : Constants × State). PlanEvents (returns_of (returnable y.0 y.1)) status h) opens_as (plan_events _ status r through x)
   follows command.Purge is status r through built x =

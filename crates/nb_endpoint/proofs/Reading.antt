@@ -1,5 +1,5 @@
 -- Why a script isn't one.
-use Rattle.std.proofs.Common.{◌≡◌, ⊎_elim, List, ℕ, refl, sym, subst}
+use Rattle.std.proofs.Common.{◌≡◌, ◌≢◌, ⊎_elim, List, ℕ, refl, sym, subst}
 use Rattle.std.specs.Prelude.{Some, Err}
 use Rattle.nb_check.specs.Breaches.{first_of}
 use Rattle.nb_check.specs.Faults as check
@@ -9,7 +9,7 @@ use Rattle.nb_check.specs.declared.breach.CheckKind.{CheckKind}
 use Rattle.nb_check.specs.declared.breach.CheckKind.TheVariants as rule
 use Rattle.nb_check.specs.declared.fault.CheckFault.{CheckFault}
 use Rattle.nb_endpoint.specs.Scripts.{IsMistake, Checks, of_text, at_text, of_rule, at_rule}
-use Rattle.nb_endpoint.specs.declared.status.Mistake.TheVariants.{Rule}
+use Rattle.nb_endpoint.specs.declared.status.Mistake.TheVariants.{Rule, Syntax}
 use Rattle.nb_script.specs.Grammar.{ItemTerm}
 use Rattle.nb_script.specs.Parsing.{IsScriptText, IsFault}
 use Rattle.nb_script.specs.Scripts.{items_of, text_of}
@@ -21,44 +21,44 @@ use Rattle.nb_script.specs.declared.script.ScriptKind.TheVariants as syntax
 pub text_refused : (bytes : List ℕ) (f : ScriptFault) → IsFault bytes f → Checks bytes (Err (of_text f))
 text_refused bytes f h = go f.kind refl
   where
-    here : (k : ScriptKind) → f.kind ≡ k → IsFault bytes (record { line = f.line; column = f.column; kind = k })
-    here k is = subst (λ (x : ScriptKind). IsFault bytes (record { line = f.line; column = f.column; kind = x })) is h
+    here : (k : ScriptKind) → k ≢ syntax.NoMemory → f.kind ≡ k → IsMistake bytes f.line f.column (Syntax k)
+    here k other is = (other, subst (λ (x : ScriptKind). IsFault bytes (record { line = f.line; column = f.column; kind = x })) is h)
 
     go : (k : ScriptKind) → f.kind ≡ k → Checks bytes (Err (at_text f k))
     go syntax.NoMemory is = tt
-    go syntax.TooLong is = here syntax.TooLong is
-    go syntax.NotUtf8 is = here syntax.NotUtf8 is
-    go syntax.BadToken is = here syntax.BadToken is
-    go syntax.BadText is = here syntax.BadText is
-    go syntax.BadNumber is = here syntax.BadNumber is
-    go syntax.TooDeep is = here syntax.TooDeep is
-    go syntax.Expected is = here syntax.Expected is
+    go syntax.TooLong is = here syntax.TooLong (λ e. absurd cc) is
+    go syntax.NotUtf8 is = here syntax.NotUtf8 (λ e. absurd cc) is
+    go syntax.BadToken is = here syntax.BadToken (λ e. absurd cc) is
+    go syntax.BadText is = here syntax.BadText (λ e. absurd cc) is
+    go syntax.BadNumber is = here syntax.BadNumber (λ e. absurd cc) is
+    go syntax.TooDeep is = here syntax.TooDeep (λ e. absurd cc) is
+    go syntax.Expected is = here syntax.Expected (λ e. absurd cc) is
 
 -- a script that breaks a rule
 broken : (bytes : List ℕ) (items : List ItemTerm) (b : Breach) (f : CheckFault) → IsScriptText bytes items → first_of (script_faults items) ≡ Some b → check.StandsAt bytes b f → Checks bytes (Err (of_rule f))
 broken bytes items b f text first stands = go f.kind refl
   where
-    here : (k : CheckKind) → f.kind ≡ k → IsMistake bytes f.line f.column (Rule k)
-    here k is = (items, b, text, first, subst (λ (x : CheckKind). check.StandsAt bytes b (record { line = f.line; column = f.column; kind = x })) is stands)
+    here : (k : CheckKind) → k ≢ rule.NoMemory → f.kind ≡ k → IsMistake bytes f.line f.column (Rule k)
+    here k other is = (other, items, b, text, first, subst (λ (x : CheckKind). check.StandsAt bytes b (record { line = f.line; column = f.column; kind = x })) is stands)
 
     go : (k : CheckKind) → f.kind ≡ k → Checks bytes (Err (at_rule f k))
     go rule.NoMemory is = tt
-    go rule.MessageTwice is = here rule.MessageTwice is
-    go rule.SagaTwice is = here rule.SagaTwice is
-    go rule.FieldTwice is = here rule.FieldTwice is
-    go rule.BadCorrelation is = here rule.BadCorrelation is
-    go rule.BadRevision is = here rule.BadRevision is
-    go rule.UnknownMessage is = here rule.UnknownMessage is
-    go rule.PartTwice is = here rule.PartTwice is
-    go rule.UnknownField is = here rule.UnknownField is
-    go rule.FieldMissing is = here rule.FieldMissing is
-    go rule.NoSaga is = here rule.NoSaga is
-    go rule.SetsCorrelation is = here rule.SetsCorrelation is
-    go rule.NoTimeoutPart is = here rule.NoTimeoutPart is
-    go rule.NameTwice is = here rule.NameTwice is
-    go rule.UnknownName is = here rule.UnknownName is
-    go rule.RowName is = here rule.RowName is
-    go rule.WrongType is = here rule.WrongType is
+    go rule.MessageTwice is = here rule.MessageTwice (λ e. absurd cc) is
+    go rule.SagaTwice is = here rule.SagaTwice (λ e. absurd cc) is
+    go rule.FieldTwice is = here rule.FieldTwice (λ e. absurd cc) is
+    go rule.BadCorrelation is = here rule.BadCorrelation (λ e. absurd cc) is
+    go rule.BadRevision is = here rule.BadRevision (λ e. absurd cc) is
+    go rule.UnknownMessage is = here rule.UnknownMessage (λ e. absurd cc) is
+    go rule.PartTwice is = here rule.PartTwice (λ e. absurd cc) is
+    go rule.UnknownField is = here rule.UnknownField (λ e. absurd cc) is
+    go rule.FieldMissing is = here rule.FieldMissing (λ e. absurd cc) is
+    go rule.NoSaga is = here rule.NoSaga (λ e. absurd cc) is
+    go rule.SetsCorrelation is = here rule.SetsCorrelation (λ e. absurd cc) is
+    go rule.NoTimeoutPart is = here rule.NoTimeoutPart (λ e. absurd cc) is
+    go rule.NameTwice is = here rule.NameTwice (λ e. absurd cc) is
+    go rule.UnknownName is = here rule.UnknownName (λ e. absurd cc) is
+    go rule.RowName is = here rule.RowName (λ e. absurd cc) is
+    go rule.WrongType is = here rule.WrongType (λ e. absurd cc) is
 
 pub rule_refused : (bytes : List ℕ) (s : Script) (f : CheckFault) → IsScriptText bytes (items_of s) → text_of s ≡ bytes → check.IsCheckFault s f → Checks bytes (Err (of_rule f))
 rule_refused bytes s f text same h =

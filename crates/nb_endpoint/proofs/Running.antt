@@ -1,5 +1,5 @@
 -- The events of a run: the Loads, and what a drain makes behind them.
-use Rattle.std.proofs.Common.{◌≡◌, ℕ, suc, ◌≤◌, List, [], ◌∷◌, ◌++◌, length, take, refl, sym, ap, ◌∙◌, arith}
+use Rattle.std.proofs.Common.{◌≡◌, ◌≢◌, ℕ, suc, ◌<◌, ◌≤◌, List, [], ◌∷◌, ◌++◌, length, take, refl, sym, ap, ◌∙◌, subst, arith}
 use Rattle.nb_base.specs.Messages.{Message}
 use Rattle.nb_core.specs.After.{after, run}
 use Rattle.nb_core.specs.Paced.{Pace, Mode, ended, load, loaded, release, cut_off, released, work, tick, loading, releasing, working, IsOfTurn, loads}
@@ -78,7 +78,7 @@ pub record Beginning (ms : List Message) (done : List Event) : Type 0 where
   pub bound : count ≤ length ms
   pub done_is : done ≡ loads_of (take count ms)
 
-head_is : {x y : Event} {xs ys : List Event} → x ∷ xs ≡ y ∷ ys → (x ≡ y) × (xs ≡ ys)
+pub head_is : {x y : Event} {xs ys : List Event} → x ∷ xs ≡ y ∷ ys → (x ≡ y) × (xs ≡ ys)
 head_is e = (cc, cc)
 
 pub beginning : (ms : List Message) (done left : List Event) → loads_of ms ≡ done ++ left → Beginning ms done
@@ -93,6 +93,16 @@ beginning (m ∷ ms) (e ∷ done) left split =
       bound = omega (arith, le);
       done_is = (λ i. sym h.0 i ∷ b.done_is i);
     }
+
+-- where something is left of the Loads, fewer were made than there are messages
+pub left_some : (ms : List Message) (done left : List Event) → loads_of ms ≡ done ++ left → left ≢ [] → length (loads done) < length ms
+left_some [] [] left split some = absurd (some (sym split))
+left_some (m ∷ ms) [] left split some = omega arith
+left_some [] (e ∷ done) left split some = absurd (cc)
+left_some (m ∷ ms) (e ∷ done) left split some =
+    let h = head_is split in
+    let less = left_some ms done left h.1 some in
+    subst (λ (x : Event). length (loads (x ∷ done)) < length (m ∷ ms)) h.0 (omega (arith, less))
 
 -- ---- no Tick and no Release behind the last Take
 

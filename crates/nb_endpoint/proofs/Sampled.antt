@@ -41,17 +41,17 @@ sampled_more seed i ms m all last =
     subst (λ (n : ℕ). AreSampled seed n (ms ++ m ∷ [])) (sym next) (ms, m, refl, all, subst (λ (n : ℕ). line_of (sample_line seed n) ≡ Ok m) next last)
 
 -- work that is done, and summed up
-pub summed : (a : Asked) (said : Said) (task : Task) (p q : Past) (h : History) (n : IsNew a said task (seen p)) (b : Bool) (works : Works said.command task.messages task.until (Ok b) (seen p) (seen q))
+pub summed : (a : Asked) (said : Said) (task : Task) (p q : Past) (h : History) (n : IsNew 1 a said task (seen p)) (b : Bool) (works : Works said.command task.messages task.until (Ok b) (seen p) (seen q))
     (legal : IsLegal q.fixed q.events) (is : h ≡ record { opening = q.fixed.opening; events = q.events }) (s : State) (seed count : ℕ) (error text : List ℕ) → b ≡ true → s ≡ state_at q → text ≡ summary seed count error h.events s
     → IsSummaryOf a seed count error p.fixed.opening text
 summed a said task p q h n b works legal is s seed count error text done_so there sum =
-    let done = done_as a said task p q h (Ok b) n works legal is (ap Ok done_so) in (
+    let done = done_as 1 a said task p q h (Ok b) n works legal is (ap Ok done_so) in (
       h,
-      sym (opening_is a said task p q h (Ok b) n works legal is),
+      sym (opening_is 1 a said task p q h (Ok b) n works legal is),
       done.0,
       done.1,
       done.2,
-      sum ∙ ap (λ (x : State). summary seed count error h.events x) (state_there a said task p q h (Ok b) n works legal is s there),
+      sum ∙ ap (λ (x : State). summary seed count error h.events x) (state_there 1 a said task p q h (Ok b) n works legal is s there),
     )
 
 -- a store of no cells tells that it has none

@@ -9,7 +9,7 @@ use Rattle.nb_cells.specs.Cells.{CellMap}
 use Rattle.nb_endpoint.specs.Asked.{asked_by}
 use Rattle.nb_endpoint.specs.Faults.{of_start}
 use Rattle.nb_endpoint.specs.Finishing.{IsNew}
-use Rattle.nb_endpoint.specs.Follows.{until_of}
+use Rattle.nb_endpoint.specs.Follows.{until_after}
 use Rattle.nb_endpoint.specs.Left.{RefusesBase, RefusesPost}
 use Rattle.nb_endpoint.specs.Rows.{IsOfStart, Risen, Counts}
 use Rattle.nb_endpoint.specs.declared.job.Job.{Job}
@@ -31,8 +31,8 @@ use Rattle.nb_words.specs.declared.words.Command.TheVariants.{Sample}
 
 -- nothing was done yet at a hub that was started for a job
 pub started_new : (job : Job) (task : Task) (meaning : Meaning) (k : Course) (tables : Tables) (post : PostState) (b p : ℕ) → meaning ≡ meaning_of (script job.handlers.checked)
-    → k ≡ course job.settings job.said.turns (opening_of tables post job.moment 1) b p [] false → task.messages ≡ job.messages → task.until ≡ until_of (asked_by job)
-    → 0 < job.said.turns → job.said.command ≢ Sample → IsNew (asked_by job) job.said task (seen (past_of meaning k))
+    → k ≡ course job.settings job.said.turns (opening_of tables post job.moment 1) b p [] false → task.messages ≡ job.messages → task.until ≡ until_after job.moment job.said
+    → 0 < job.said.turns → job.said.command ≢ Sample → IsNew 1 (asked_by job) job.said task (seen (past_of meaning k))
 started_new job task meaning k tables post b p m is messages until some built = record {
   said_is = refl;
   messages_are = messages;
@@ -43,7 +43,7 @@ started_new job task meaning k tables post b p m is messages until some built = 
   constants_are = λ i. record { meaning = m i; settings = (is i).settings };
   turns = ap (λ (x : Course). x.turns) is;
   moment = ap (λ (x : Course). x.opening.moment) is;
-  workers = ap (λ (x : Course). x.opening.workers) is;
+  crew = ap (λ (x : Course). x.opening.workers) is;
 }
 
 -- the stores of a hub that was started stand as they have to, where they told one map

@@ -20,6 +20,7 @@ use Rattle.nb_pump.specs.Plans.{loads_of, returns_of, purges_of}
 use Rattle.nb_store.specs.Lookups.{purgeable}
 use Rattle.nb_words.specs.declared.words.Command.{Command}
 use Rattle.nb_words.specs.declared.words.Command.TheVariants.{Run, Show, Retry, Purge, Sample}
+use Rattle.nb_words.specs.declared.words.Words.{Words as Said}
 
 -- the script's meaning, and the settings
 abbrev pub constants_of : Asked → Constants
@@ -29,14 +30,19 @@ constants_of a = record { meaning = meaning_of a.items; settings = a.settings }
 abbrev pub state_in : Asked → History → State
 state_in a h = run (constants_of a) (opened h.opening) h.events
 
--- the moment until which what is due is handled: that of the command and the horizon, or the last one
-abbrev pub until_of : Asked → ℕ
-until_of a = min (a.moment + a.said.horizon) 253402300799
+-- the moment until which what is due is handled: one and the horizon, or the last one
+abbrev pub until_after : ℕ → Said → ℕ
+until_after moment said = min (moment + said.horizon) 253402300799
 
--- the history is legal and within the Takes that are allowed; it begins at the moment that was asked for, with one worker
-pub record Begins (a : Asked) (h : History) : Type 0 where
+-- from the moment on at which the history opens
+abbrev pub until_of : Asked → History → ℕ
+until_of a h = until_after h.opening.moment a.said
+
+-- the history is legal and within the Takes that are allowed; it opens at the moment that was asked for, with so many
+-- workers
+pub record Begins (workers : ℕ) (a : Asked) (h : History) : Type 0 where
   pub moment : h.opening.moment ≡ a.moment
-  pub workers : h.opening.workers ≡ 1
+  pub crew : h.opening.workers ≡ workers
   pub legal : Legal (constants_of a) h (state_in a h)
   pub within : IsWithin a.said.turns h.events
 
@@ -57,7 +63,7 @@ pub record RunEvents (a : Asked) (status : Status) (h : History) : Type 0 where
   pub count : ℕ
   pub bound : count ≤ length a.messages
   pub loaded : loads h.events ≡ take count a.messages
-  pub paced : Paced (constants_of a) (until_of a) h
+  pub paced : Paced (constants_of a) (until_of a h) h
   pub all : IsThrough status → count ≡ length a.messages
   pub short : count < length a.messages → (stop : List Event) × (h.events ≡ loads_of (take count a.messages) ++ stop) × IsHaltAtMost stop
   pub limit : KeepsLimit a.said.turns 0 h.events
@@ -74,7 +80,7 @@ pub record PlanEvents (plan : List Event) (status : Status) (h : History) : Type
 
 abbrev pub FollowsAs : Command → Asked → Status → History → Type 0
 FollowsAs Run a status h = RunEvents a status h
-FollowsAs Show a status h = PlanEvents [] status h
+FollowsAs Show a status h = h.events ≡ []
 FollowsAs Retry a status h = PlanEvents (returns_of (returnable (constants_of a) (opened h.opening))) status h
 FollowsAs Purge a status h = PlanEvents (purges_of (purgeable h.opening.tables a.settings.retention h.opening.moment)) status h
 FollowsAs Sample a status h = ⊥

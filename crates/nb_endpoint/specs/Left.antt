@@ -5,15 +5,17 @@ use Rattle.nb_base.specs.Shown.{stored}
 use Rattle.nb_base.specs.declared.entry.Which.TheVariants.{Base, Post}
 use Rattle.nb_base.specs.declared.tables.Tables.{Tables}
 use Rattle.nb_cells.specs.Cells.{CellMap}
+use Rattle.nb_cells.specs.declared.cells.Cells.{Ghosts}
 use Rattle.nb_core.specs.Past.{Fixed}
 use Rattle.nb_core.specs.declared.history.History.{History}
 use Rattle.nb_endpoint.specs.Asked.{Asked}
 use Rattle.nb_endpoint.specs.Follows.{constants_of, state_in}
+use Rattle.nb_endpoint.specs.Stores.{BaseHolds, PostHolds}
 use Rattle.nb_endpoint.specs.declared.status.Status.{Status}
 use Rattle.nb_endpoint.specs.declared.status.Status.TheVariants.{Damaged}
+use Rattle.nb_hub.specs.Desks.{Started}
 use Rattle.nb_hub.specs.Kept.{failed_store}
 use Rattle.nb_hub.specs.Starting.{IsMisfit}
-use Rattle.nb_hub.specs.Stores.{BaseHolds, PostHolds}
 use Rattle.nb_queue.specs.Damage.{IsLeastDamage}
 use Rattle.nb_queue.specs.Maps as queue
 use Rattle.nb_store.specs.CellMaps as table
@@ -25,13 +27,18 @@ fixed_in a h = record { meaning = (constants_of a).meaning; settings = a.setting
 
 -- A store of tables that told this map: where it is honest to the end, the history opens with the tables for which the map
 -- stands, and the store holds the tables of the state. Where it failed, it may hold those after one more event instead.
-pub record BaseLeft {D : Type 0} (honest : D → Type 0) (now images : D → CellMap → Type 0) (firm : D → Type 0) (m : CellMap) (a : Asked) (h : History) (store : D) : Type 0 where
-  pub opening : honest store → table.HasCells m h.opening.tables
-  pub holds : honest store → BaseHolds now images firm store (fixed_in a h) (state_in a h) (failed_store h.events)
+pub record BaseLeft {D : Type 0} (g : Ghosts D) (m : CellMap) (a : Asked) (h : History) (store : D) : Type 0 where
+  pub opening : g.honest store → table.HasCells m h.opening.tables
+  pub holds : g.honest store → BaseHolds g store (fixed_in a h) (state_in a h) (failed_store h.events)
 
-pub record PostLeft {P : Type 0} (honest : P → Type 0) (now images : P → CellMap → Type 0) (firm : P → Type 0) (m : CellMap) (a : Asked) (h : History) (store : P) : Type 0 where
-  pub opening : honest store → queue.HasCells m h.opening.post
-  pub holds : honest store → PostHolds now images firm store (fixed_in a h) (state_in a h) (failed_store h.events)
+pub record PostLeft {P : Type 0} (g : Ghosts P) (m : CellMap) (a : Asked) (h : History) (store : P) : Type 0 where
+  pub opening : g.honest store → queue.HasCells m h.opening.post
+  pub holds : g.honest store → PostHolds g store (fixed_in a h) (state_in a h) (failed_store h.events)
+
+-- both stores, from the maps on that they told
+pub record AreLeft {P D : Type 0} (p : Ghosts P) (d : Ghosts D) (start : Started) (a : Asked) (h : History) (post : P) (base : D) : Type 0 where
+  pub base_left : BaseLeft d start.base a h base
+  pub post_left : PostLeft p start.post a h post
 
 -- where the base told this map, damage is of its least cell at fault, or of the least saga that doesn't fit; and where the
 -- post is at fault, the base isn't

@@ -12,6 +12,10 @@ pub mod Printing
 pub mod Faults
 pub mod Rows
 pub mod Served
+pub mod Stores
+pub mod Handed
 pub mod Left
 pub mod Finishing
+pub mod Unbegun
+pub mod Complete
 pub mod Headline

@@ -48,14 +48,14 @@ no_cells space key = None
 pub record IsRun (a : Asked) (h : History) : Type 0 where
   pub tables_are : table.HasCells no_cells h.opening.tables
   pub post_is : queue.HasCells no_cells h.opening.post
-  pub begins : Begins a h
+  pub begins : Begins 1 a h
   pub follows : Follows a Done h
   pub shows : Shows a Done h
 
 -- the summary of a history that is done, from this opening on
 abbrev pub IsSummaryOf : Asked → ℕ → ℕ → List ℕ → Opening → List ℕ → Type 0
 IsSummaryOf a seed count error opening text =
-    (h : History) × (h.opening ≡ opening) × Begins a h × Follows a Done h × Shows a Done h × (text ≡ summary seed count error h.events (state_in a h))
+    (h : History) × (h.opening ≡ opening) × Begins 1 a h × Follows a Done h × Shows a Done h × (text ≡ summary seed count error h.events (state_in a h))
 
 -- the summary of the sample's history
 abbrev pub IsSummary : ℕ → ℕ → List ℕ → Type 0

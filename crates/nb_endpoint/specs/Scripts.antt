@@ -1,5 +1,5 @@
 -- What is read of a script.
-use Rattle.std.specs.Prelude.{◌≡◌, ℕ, List, [], Some, Result, Ok, Err}
+use Rattle.std.specs.Prelude.{◌≡◌, ◌≢◌, ℕ, List, [], Some, Result, Ok, Err}
 use Rattle.nb_check.specs.Breaches.{first_of}
 use Rattle.nb_check.specs.Faults as check
 use Rattle.nb_check.specs.Rules.{script_faults}
@@ -28,11 +28,12 @@ pub record IsScript (bytes : List ℕ) (items : List ItemTerm) : Type 0 where
 abbrev pub IsScriptOf : List ℕ → List Item → Type 0
 IsScriptOf bytes rows = IsScript bytes (script rows)
 
--- the first place at which the bytes aren't a well-typed script: at which they are no script, or break a rule
+-- the first place at which the bytes aren't a well-typed script: at which they are no script, or break a rule. Want of
+-- memory is no mistake.
 abbrev pub IsMistake : List ℕ → ℕ → ℕ → Mistake → Type 0
-IsMistake bytes line column (Syntax kind) = IsFault bytes (record { line = line; column = column; kind = kind })
+IsMistake bytes line column (Syntax kind) = (kind ≢ syntax.NoMemory) × IsFault bytes (record { line = line; column = column; kind = kind })
 IsMistake bytes line column (Rule kind) =
-    (items : List ItemTerm) × (b : Breach) × IsScriptText bytes items × (first_of (script_faults items) ≡ Some b)
+    (kind ≢ rule.NoMemory) × (items : List ItemTerm) × (b : Breach) × IsScriptText bytes items × (first_of (script_faults items) ≡ Some b)
     × check.StandsAt bytes b (record { line = line; column = column; kind = kind })
 
 abbrev pub Checks : List ℕ → Result (List Item) Status → Type 0

@@ -16,6 +16,6 @@ unless_sample said Sample = None
 abbrev pub served_words : List (List ℕ) → Option Said
 served_words words = option_and_then (λ (said : Said). unless_sample said said.command) (words_of words)
 
--- the words ask for a sample
-abbrev pub AskSample : List (List ℕ) → Type 0
-AskSample words = (said : Said) × (words_of words ≡ Some said) × (said.command ≡ Sample)
+-- the words ask for this command
+abbrev pub AskFor : Command → List (List ℕ) → Type 0
+AskFor command words = (said : Said) × (words_of words ≡ Some said) × (said.command ≡ command)

@@ -6,14 +6,14 @@ ghost use Rattle.nb_core.specs.Legal.{HasRoutes, halted};
 ghost use Rattle.nb_endpoint.specs.Asked.{Asked, asked_by};
 ghost use Rattle.nb_endpoint.specs.Finishing.{IsFinished, IsNew};
 ghost use Rattle.nb_endpoint.specs.Follows.{Begins, Follows, constants_of, state_in};
-ghost use Rattle.nb_endpoint.specs.Left.{BaseLeft, PostLeft, RefusesBase, RefusesPost};
+ghost use Rattle.nb_endpoint.specs.Left.{AreLeft, RefusesBase, RefusesPost};
+ghost use Rattle.nb_endpoint.specs.Stores.{DeskStands, IsRead, Told, TellsOne};
 ghost use Rattle.nb_endpoint.specs.Prints.{Prints, PrintsNothing};
 ghost use Rattle.nb_endpoint.specs.Rows.{Shows, IsOfStart, Risen, counts};
 ghost use Rattle.nb_endpoint.specs.Works.{Works};
-ghost use Rattle.nb_hub.specs.Desks.{DeskStands, Started};
+ghost use Rattle.nb_hub.specs.Desks.{Started};
 ghost use Rattle.nb_hub.specs.Kept.{seen};
 ghost use Rattle.nb_hub.specs.Ledgers.{past_of, state_at};
-ghost use Rattle.nb_hub.specs.Starting.{IsRead, Told, TellsOne};
 ghost use Rattle.nb_pump.specs.Drains.{Standing};
 ghost use Rattle.nb_words.specs.declared.words.Command.TheVariants.{Sample};
 
@@ -53,10 +53,15 @@ pub(crate) fn work<H: Handling, M: Handling + Drop, P: Cells, D: Cells>(
 ) -> Result<bool, DeskFault>
     requires standing { Standing (seen (past_of (M.meaning hub.old.handlers) hub.old.course)) }
     requires on { halted hub.old.course.events ≡ false }
-    requires moment { (state_at (past_of (M.meaning hub.old.handlers) hub.old.course)).moment ≡ task.now.moment }
+    requires moment { (state_at (past_of (M.meaning hub.old.handlers) hub.old.course)).moment
+        ≡ task.now.moment }
     requires meaning { M.meaning hub.old.handlers ≡ H.meaning handling.now }
-    ensures works { Works command task.now.messages task.now.until result (seen (past_of (M.meaning hub.old.handlers) hub.old.course)) (seen (past_of (M.meaning hub.new.handlers) hub.new.course)) }
-    ensures stands { (start : Started) → DeskStands D.honest D.now D.images D.firm P.honest P.now P.images P.firm start (past_of (M.meaning hub.old.handlers) hub.old.course) hub.old.base hub.old.post → DeskStands D.honest D.now D.images D.firm P.honest P.now P.images P.firm start (past_of (M.meaning hub.new.handlers) hub.new.course) hub.new.base hub.new.post }
+    ensures works { Works command task.now.messages task.now.until result
+        (seen (past_of (M.meaning hub.old.handlers) hub.old.course))
+        (seen (past_of (M.meaning hub.new.handlers) hub.new.course)) }
+    ensures stands { (start : Started)
+        → DeskStands P.Cells D.Cells start (past_of (M.meaning hub.old.handlers) hub.old.course) hub.old.base hub.old.post
+        → DeskStands P.Cells D.Cells start (past_of (M.meaning hub.new.handlers) hub.new.course) hub.new.base hub.new.post }
     ensures handlers { M.meaning hub.new.handlers ≡ M.meaning hub.old.handlers }
 {
     match chore_of(command, hub) {
@@ -87,10 +92,17 @@ fn finish<H: Handling, M: Handling + Drop, P: Cells, D: Cells, O: Sink>(
     requires one { hub.course.opening.workers ≡ 1 }
     requires moment { hub.course.opening.moment ≡ task.now.moment }
     requires meaning { M.meaning hub.handlers ≡ H.meaning handling.now }
-    ensures finished { (a : Asked) → IsNew a said task.now (seen (past_of (M.meaning hub.handlers) hub.course)) → IsFinished a result.worked result.history (O.held out.old) (O.held out.new) }
-    ensures risen { Risen result.worked.status (counts hub.course.base_faults (D.count result.base) hub.course.post_faults (P.count result.post) (O.count out.old) (O.count out.new)) }
+    ensures finished { (a : Asked) → IsNew 1 a said task.now (seen (past_of (M.meaning hub.handlers) hub.course))
+        → IsFinished 1 a result.worked result.history (O.held out.old) (O.held out.new) }
+    ensures risen { Risen result.worked.status (counts
+        hub.course.base_faults (D.count result.base)
+        hub.course.post_faults (P.count result.post)
+        (O.count out.old) (O.count out.new)) }
     ensures means { IsMeaning (M.meaning hub.handlers) }
-    ensures left { (a : Asked) (start : Started) → IsNew a said task.now (seen (past_of (M.meaning hub.handlers) hub.course)) → DeskStands D.honest D.now D.images D.firm P.honest P.now P.images P.firm start (past_of (M.meaning hub.handlers) hub.course) hub.base hub.post → BaseLeft D.honest D.now D.images D.firm start.base a result.history result.base × PostLeft P.honest P.now P.images P.firm start.post a result.history result.post }
+    ensures left { (a : Asked) (start : Started)
+        → IsNew 1 a said task.now (seen (past_of (M.meaning hub.handlers) hub.course))
+        → DeskStands P.Cells D.Cells start (past_of (M.meaning hub.handlers) hub.course) hub.base hub.post
+        → AreLeft P.Cells D.Cells start a result.history result.post result.base }
 {
     let mut hub = hub;
     hub.legal();
@@ -121,17 +133,26 @@ pub fn perform<O: Sink, P: Cells, D: Cells>(
     requires routes { HasRoutes (constants_of (asked_by job)) }
     requires some { 0 < job.said.turns }
     requires built { job.said.command ≢ Sample }
-    ensures begins { IfSome result.history (Begins (asked_by job)) }
+    ensures begins { IfSome result.history (Begins 1 (asked_by job)) }
     ensures follows { IfSome result.history (Follows (asked_by job) result.status) }
     ensures shows { MatchOption result.history (IsOfStart result.status) (Shows (asked_by job) result.status) }
-    ensures prints { MatchOption result.history (PrintsNothing result.printed (O.held out.old) (O.held out.new)) (λ h. Prints result.status (state_in (asked_by job) h) result.printed (O.held out.old) (O.held out.new)) }
-    ensures risen { Risen result.status (counts (D.count base) (D.count result.base) (P.count post) (P.count result.post) (O.count out.old) (O.count out.new)) }
+    ensures prints { MatchOption result.history
+        (PrintsNothing result.printed (O.held out.old) (O.held out.new))
+        (λ h. Prints result.status (state_in (asked_by job) h) result.printed (O.held out.old) (O.held out.new)) }
+    ensures risen { Risen result.status (counts
+        (D.count base) (D.count result.base)
+        (P.count post) (P.count result.post)
+        (O.count out.old) (O.count out.new)) }
     ensures means { IfSome result.history (λ h. IsMeaning (constants_of (asked_by job)).meaning) }
-    ensures left { (start : Started) → IfSome result.history (λ h. TellsOne D.now D.images D.firm base start.base → TellsOne P.now P.images P.firm post start.post → BaseLeft D.honest D.now D.images D.firm start.base (asked_by job) h result.base × PostLeft P.honest P.now P.images P.firm start.post (asked_by job) h result.post) }
-    ensures base_kept { result.history ≡ None → IsRead D.honest D.now D.images D.firm D.count base result.base }
-    ensures post_kept { result.history ≡ None → IsRead P.honest P.now P.images P.firm P.count post result.post }
-    ensures base_damage { (m : CellMap) → result.history ≡ None → Told D.honest D.now D.firm base result.base m → RefusesBase (constants_of (asked_by job)).meaning m result.status }
-    ensures post_damage { (m : CellMap) → result.history ≡ None → Told P.honest P.now P.firm post result.post m → RefusesPost m result.status }
+    ensures left { (start : Started) → IfSome result.history (λ h.
+        TellsOne D.Cells base start.base → TellsOne P.Cells post start.post
+        → AreLeft P.Cells D.Cells start (asked_by job) h result.post result.base) }
+    ensures base_kept { result.history ≡ None → IsRead D.Cells base result.base }
+    ensures post_kept { result.history ≡ None → IsRead P.Cells post result.post }
+    ensures base_damage { (m : CellMap) → result.history ≡ None → Told D.Cells base result.base m
+        → RefusesBase (constants_of (asked_by job)).meaning m result.status }
+    ensures post_damage { (m : CellMap) → result.history ≡ None → Told P.Cells post result.post m
+        → RefusesPost m result.status }
 {
     let Job {
         said,

@@ -1,13 +1,12 @@
 //! How work over two stores ends: the report, or the fault that was met.
-ghost use Rattle.std.specs.Prelude.{◌≡◌, true, IfErr};
-ghost use Rattle.nb_core.specs.Legal.{halted};
-ghost use Rattle.nb_core.specs.declared.answers.DeskFault.TheVariants as desk;
-ghost use Rattle.nb_endpoint.specs.Faults.{of_start, of_store, IsMet, IsStatusOf, EndIs};
+ghost use Rattle.std.specs.Prelude.{◌≡◌, List, IfErr};
+ghost use Rattle.nb_core.specs.declared.event.Event.{Event};
+ghost use Rattle.nb_endpoint.specs.Faults.{of_start, IsMet, IsStatusOf, EndIs};
 
 use crate::printing::{Worked, print};
 use crate::status::Status;
-use nb_base::{Sink, Which};
-use nb_core::{DeskFault, Event, History, State};
+use nb_base::Sink;
+use nb_core::{DeskFault, History, State};
 use nb_hub::StartFault;
 use std::alloc::Global;
 
@@ -23,38 +22,16 @@ pub fn of_start(fault: StartFault) -> Status
     }
 }
 
-/// The status of a store that failed.
-fn of_store(store: Which) -> Status
-    ensures { result ≡ of_store store }
-{
-    match store {
-        Which::Base => Status::BaseFault,
-        Which::Post => Status::PostFault,
-    }
-}
-
-/// The status of a history that ends in a Halt.
-fn of_halt(history: &History) -> Status
-    requires { halted history.now.events ≡ true }
-    ensures { IsStatusOf desk.Halted history.now.events result }
-{
-    let events = &history.events;
-    let Event::Halt { store } = events.at(events.len() - 1) else {
-        unreachable!()
-    };
-    of_store(*store)
-}
-
 /// The status of work that met a fault.
-fn of_fault(history: &History, fault: DeskFault) -> Status
-    requires { IsMet fault history.now.events }
-    ensures { IsStatusOf fault history.now.events result }
+fn of_fault(fault: DeskFault) -> Status
+    requires { (es : List Event) × IsMet fault es }
+    ensures { IsStatusOf fault result }
 {
     match fault {
         DeskFault::StoreFailed => Status::BaseFault,
         DeskFault::PostFailed => Status::PostFault,
         DeskFault::Spent => Status::Spent,
-        DeskFault::Halted => of_halt(history),
+        DeskFault::Halted => unreachable!(),
         DeskFault::NoMemory => Status::NoMemory,
     }
 }
@@ -69,13 +46,14 @@ pub fn end<O: Sink>(
     out: &mut O,
 ) -> Worked
     requires { IfErr done (λ fault. IsMet fault history.now.events) }
-    ensures { EndIs done turns history.now.events state.now result (O.held out.old) (O.held out.new) (O.count out.old) (O.count out.new) }
+    ensures { EndIs done turns history.now.events state.now result
+        (O.held out.old) (O.held out.new) (O.count out.old) (O.count out.new) }
 {
     match done {
         Ok(true) => print(alloc, state, Status::Done, out),
         Ok(false) => print(alloc, state, Status::NotDrained { takes: turns }, out),
         Err(fault) => Worked {
-            status: of_fault(history, fault),
+            status: of_fault(fault),
             printed: 0,
         },
     }

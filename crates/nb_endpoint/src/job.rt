@@ -1,6 +1,8 @@
 //! All that is read and checked before a store is touched.
+ghost use Rattle.std.specs.Prelude.{◌≡◌, ◌≢◌};
 ghost use Rattle.nb_endpoint.specs.Asked.{IsMoment, ReadsLines, BodiesAre, LoadsFor, Prepares};
 ghost use Rattle.nb_endpoint.specs.Sources.{flow};
+ghost use Rattle.nb_words.specs.declared.words.Command.TheVariants.{Run};
 
 use crate::lines::messages_of;
 use crate::script::checked_of;
@@ -43,7 +45,8 @@ fn lines_for<S: Source>(
     command: Command,
     input: &mut S,
 ) -> Result<Option<Bytes>, Status>
-    ensures { ReadsLines command (flow (S.left input.old) (S.left input.new) (S.count input.old) (S.count input.new)) result }
+    ensures read { ReadsLines command (flow S.Source input.old input.new) result }
+    ensures unread { command ≢ Run → input.new ≡ input.old }
 {
     match command {
         Command::Run => match read_source(alloc, input, MOST_INPUT, Input::Lines) {
@@ -65,7 +68,12 @@ fn bodies_of<S: Source>(
     settings: &mut S,
     input: &mut S,
 ) -> Result<Bodies, Status>
-    ensures { BodiesAre command (flow (S.left script.old) (S.left script.new) (S.count script.old) (S.count script.new)) (flow (S.left settings.old) (S.left settings.new) (S.count settings.old) (S.count settings.new)) (flow (S.left input.old) (S.left input.new) (S.count input.old) (S.count input.new)) result }
+    ensures read { BodiesAre command (record {
+        script = flow S.Source script.old script.new;
+        settings = flow S.Source settings.old settings.new;
+        lines = flow S.Source input.old input.new;
+    }) result }
+    ensures unread { command ≢ Run → input.new ≡ input.old }
 {
     let script = match read_source(alloc, script, MOST_TEXT, Input::Script) {
         Ok(bytes) => bytes,
@@ -114,7 +122,12 @@ pub fn prepare<S: Source, C: Clock>(
     input: &mut S,
     clock: &mut C,
 ) -> Result<Job, Status>
-    ensures { Prepares said (C.next clock.old) (flow (S.left script.old) (S.left script.new) (S.count script.old) (S.count script.new)) (flow (S.left settings.old) (S.left settings.new) (S.count settings.old) (S.count settings.new)) (flow (S.left input.old) (S.left input.new) (S.count input.old) (S.count input.new)) result }
+    ensures prepares { Prepares said (C.next clock.old) (record {
+        script = flow S.Source script.old script.new;
+        settings = flow S.Source settings.old settings.new;
+        lines = flow S.Source input.old input.new;
+    }) result }
+    ensures unread { said.command ≢ Run → input.new ≡ input.old }
 {
     let bodies = match bodies_of(alloc, said.command, script, settings, input) {
         Ok(bodies) => bodies,

@@ -17,7 +17,8 @@ pub struct Worked {
 /// Prints a text behind which the work ends with this status.
 pub(crate) fn write<O: Sink>(text: &Text, ended: Status, out: &mut O) -> Worked
     requires { EndsAs ended }
-    ensures { TextIs ended text.now result (O.held out.old) (O.held out.new) (O.count out.old) (O.count out.new) }
+    ensures { TextIs ended text.now result
+        (O.held out.old) (O.held out.new) (O.count out.old) (O.count out.new) }
 {
     let bytes = text.as_str().as_bytes();
     match write_all(out, bytes) {
@@ -35,7 +36,8 @@ pub(crate) fn write<O: Sink>(text: &Text, ended: Status, out: &mut O) -> Worked
 /// Prints the report of a state at which the work ended with this status.
 pub fn print<O: Sink>(alloc: Global, state: &State, ended: Status, out: &mut O) -> Worked
     requires { EndsAs ended }
-    ensures { PrintIs ended state.now result (O.held out.old) (O.held out.new) (O.count out.old) (O.count out.new) }
+    ensures { PrintIs ended state.now result
+        (O.held out.old) (O.held out.new) (O.count out.old) (O.count out.new) }
 {
     match report(alloc, state) {
         Ok(text) => write(&text, ended, out),

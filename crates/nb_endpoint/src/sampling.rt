@@ -90,7 +90,8 @@ fn summarize<H: Handling, M: Handling + Drop>(
     requires moment { hub.course.opening.moment ≡ task.now.moment }
     requires meaning { M.meaning hub.handlers ≡ H.meaning handling.now }
     requires run { said.command ≡ Run }
-    ensures { (a : Asked) → IsNew a said task.now (seen (past_of (M.meaning hub.handlers) hub.course)) → IfOk result (IsSummaryOf a said.seed said.count error.now hub.course.opening) }
+    ensures { (a : Asked) → IsNew 1 a said task.now (seen (past_of (M.meaning hub.handlers) hub.course))
+        → IfOk result (IsSummaryOf a said.seed said.count error.now hub.course.opening) }
 {
     let mut hub = hub;
     hub.legal();
@@ -139,7 +140,8 @@ pub fn sample_run(alloc: Global, seed: u64, count: u64) -> Result<Text, NoMemory
 
 /// Makes the sample's run, and prints its summary.
 pub(crate) fn sample<O: Sink>(alloc: Global, seed: u64, count: u64, out: &mut O) -> Worked
-    ensures { SampleIs seed count result (O.held out.old) (O.held out.new) (O.count out.old) (O.count out.new) }
+    ensures { SampleIs seed count result
+        (O.held out.old) (O.held out.new) (O.count out.old) (O.count out.new) }
 {
     match sample_run(alloc, seed, count) {
         Ok(text) => write(&text, Status::Done, out),

@@ -14,7 +14,7 @@ pub(crate) fn read_source<S: Source>(
     which: Input,
 ) -> Result<Bytes, Status>
     requires { most < 2 ^ 32 }
-    ensures { Reads which most (flow (S.left source.old) (S.left source.new) (S.count source.old) (S.count source.new)) result }
+    ensures { Reads which most (flow S.Source source.old source.new) result }
 {
     match read_all(alloc, source, most) {
         Ok(bytes) => Ok(bytes),

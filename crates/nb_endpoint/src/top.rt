@@ -1,12 +1,8 @@
 //! The top call.
-ghost use Rattle.std.specs.Prelude.{◌≡◌, ◌⊎◌, ◌↔◌, IsTrue, None, IfOk, IfSome};
+ghost use Rattle.std.specs.Prelude.{◌≡◌, ◌↔◌, IsTrue, None};
+ghost use Rattle.nb_endpoint.specs.Handed.{ends};
+ghost use Rattle.nb_endpoint.specs.Headline.{Headline};
 ghost use Rattle.nb_words.specs.declared.words.Command.TheVariants.{Sample};
-ghost use Rattle.nb_endpoint.specs.Asked.{IsRefused};
-ghost use Rattle.nb_endpoint.specs.Served.{served_words};
-ghost use Rattle.nb_endpoint.specs.Headline.{given, IsApart, Opens, Acts, ComesTo, SendsAll, Leaves, PrintsAll, Row, IsDamage, IsComplete};
-ghost use Rattle.nb_endpoint.specs.Rows.{Risen, counts};
-ghost use Rattle.nb_hub.specs.Desks.{Started};
-ghost use Rattle.nb_hub.specs.Starting.{IsRead, Told, TellsOne};
 
 use crate::ended::{Ended, perform};
 use crate::job::prepare;
@@ -31,7 +27,8 @@ fn is_sample(command: Command) -> bool
 
 /// Nothing is begun.
 fn refused<P, D>(status: Status, post: P, base: D) -> Ended<P, D>
-    ensures { result ≡ record { status = status; post = post; base = base; history = None; printed = 0 } }
+    ensures { result
+        ≡ record { status = status; post = post; base = base; history = None; printed = 0 } }
 {
     Ended {
         status,
@@ -55,19 +52,21 @@ pub fn run_alone<S: Source, O: Sink, P: Cells, D: Cells, C: Clock>(
     base: D,
     clock: &mut C,
 ) -> Ended<P, D>
-    ensures opens { IfSome result.history (Opens (given S.left S.count C.next words.now clock.old script.old script.new settings.old settings.new input.old input.new)) }
-    ensures acts { IfSome result.history (Acts (given S.left S.count C.next words.now clock.old script.old script.new settings.old settings.new input.old input.new) result.status) }
-    ensures comes { IfSome result.history (ComesTo (given S.left S.count C.next words.now clock.old script.old script.new settings.old settings.new input.old input.new)) }
-    ensures sends { IfSome result.history (SendsAll (given S.left S.count C.next words.now clock.old script.old script.new settings.old settings.new input.old input.new) result.status) }
-    ensures leaves { (start : Started) → IfSome result.history (λ h. TellsOne D.now D.images D.firm base start.base → TellsOne P.now P.images P.firm post start.post → Leaves D.honest D.now D.images D.firm P.honest P.now P.images P.firm (given S.left S.count C.next words.now clock.old script.old script.new settings.old settings.new input.old input.new) start result.base result.post h) }
-    ensures apart { served_words words.now ≡ None → IsApart script.old script.new settings.old settings.new input.old input.new base result.base post result.post }
-    ensures base_kept { result.history ≡ None → IsRead D.honest D.now D.images D.firm D.count base result.base }
-    ensures post_kept { result.history ≡ None → IsRead P.honest P.now P.images P.firm P.count post result.post }
-    ensures prints { PrintsAll (given S.left S.count C.next words.now clock.old script.old script.new settings.old settings.new input.old input.new) result.status result.history result.printed (O.held out.old) (O.held out.new) }
-    ensures row { Row (given S.left S.count C.next words.now clock.old script.old script.new settings.old settings.new input.old input.new) result.status result.history }
-    ensures risen { Risen result.status (counts (D.count base) (D.count result.base) (P.count post) (P.count result.post) (O.count out.old) (O.count out.new)) }
-    ensures damage { (start : Started) → result.history ≡ None → Told D.honest D.now D.firm base result.base start.base → Told P.honest P.now P.firm post result.post start.post → IsDamage (given S.left S.count C.next words.now clock.old script.old script.new settings.old settings.new input.old input.new) start.base start.post result.status }
-    ensures complete { (start : Started) → Told D.honest D.now D.firm base result.base start.base → Told P.honest P.now P.firm post result.post start.post → IsComplete (given S.left S.count C.next words.now clock.old script.old script.new settings.old settings.new input.old input.new) result.status result.history (counts (D.count base) (D.count result.base) (P.count post) (P.count result.post) (O.count out.old) (O.count out.new)) start.base start.post }
+    ensures headline {
+        Headline S.Source O.Sink P.Cells D.Cells (λ said. 1) (record {
+            words = words.now;
+            clock = C.next clock.old;
+            script = ends script.old script.new;
+            settings = ends settings.old settings.new;
+            lines = ends input.old input.new;
+            out = ends out.old out.new;
+            post = ends post result.post;
+            base = ends base result.base;
+            status = result.status;
+            history = result.history;
+            printed = result.printed;
+        })
+    }
 {
     let said = match read_words(alloc, words) {
         Ok(Some(said)) => said,

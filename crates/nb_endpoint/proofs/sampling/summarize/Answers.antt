@@ -1,3 +1,4 @@
+use Rattle.std.proofs.Common.{arith}
 use Rattle.std.proofs.lemmas.Result.{IfOk-weaker}
 use Rattle.nb_hub.specs.Ledgers.{past_of}
 use Rattle.nb_endpoint.proofs.Finishing.{standing_new}
@@ -7,7 +8,8 @@ use Rattle.nb_endpoint.proofs.sampling.summarize.Goals as goal
 pub work-done-requires-clause-standing : goal.work-done-requires-clause-standing
 work-done-requires-clause-standing g c =
     let p = past_of (g.M.Handling.meaning c.args.hub.handlers) c.args.hub.course in
-    standing_new p.fixed p.events c.requires.none c.requires.one c.legal.ensures
+    let one = c.requires.one in
+    standing_new p.fixed p.events c.requires.none (omega (arith, one)) c.legal.ensures
 
 pub returns-in-Ok-true : goal.returns-in-Ok-true
 returns-in-Ok-true g c = λ a new.
