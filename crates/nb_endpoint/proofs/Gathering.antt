@@ -32,7 +32,7 @@ read_for Sample l bytes x = none_some x
 module _ (command : Command) (f : Flows) (b : Bodies) (read : AreRead command f b) (items : List ItemTerm) (settings : SettingsOf) (set : AreSet b items settings) where
   bad_line : (bytes : List ℕ) (status : Status) → b.lines ≡ Some bytes → Loads bytes (Err status) → IsRefused command f status
   bad_line bytes (Input line kind) x h =
-      (b, read, items, settings, set, read_for command f.lines bytes (subst (λ (o : Option (List ℕ)). LinesAre command f.lines o) x read.lines), (bytes, x, h))
+      (b, read, (items, settings, set, read_for command f.lines bytes (subst (λ (o : Option (List ℕ)). LinesAre command f.lines o) x read.lines), (bytes, x, h)))
   bad_line bytes NoMemory x h = tt
   bad_line bytes Done x h = absurd h
   bad_line bytes (NotDrained takes) x h = absurd h
@@ -76,7 +76,7 @@ module _ (command : Command) (f : Flows) (b : Bodies) (read : AreRead command f 
   settings_refused items script (NotDrained takes) h = absurd h
   settings_refused items script Words h = absurd h
   settings_refused items script (Script line column kind) h = absurd h
-  settings_refused items script (Settings key kind) h = (b, read, items, script, h)
+  settings_refused items script (Settings key kind) h = (b, read, (items, script, h))
   settings_refused items script (Input line kind) h = absurd h
   settings_refused items script (ReadFault source) h = absurd h
   settings_refused items script WriteFault h = absurd h

@@ -94,10 +94,10 @@ not_called g store = record {
 }
 
 -- the laws of legal histories by which the outcome is had
-abbrev pub LawOfOutcome : Type 1
+abbrev pub LawOfOutcome : Type 0
 LawOfOutcome = (c : Constants) (h : History) (s : State) → IsMeaning c.meaning → (legal : Legal c h s) → Outcome legal.run
 
-abbrev pub LawOfSending : Type 1
+abbrev pub LawOfSending : Type 0
 LawOfSending = (c : Constants) (h : History) (s : State) (until : ℕ) → (legal : Legal c h s) → Drained c s until → AreSent legal.run until
 
 module _ {S O P D : Type 0} (s : source.Ghosts S) (o : sink.Ghosts O) (p : Ghosts P) (d : Ghosts D) (x : Handed S O P D) where
@@ -134,16 +134,19 @@ module _ {S O P D : Type 0} (s : source.Ghosts S) (o : sink.Ghosts O) (p : Ghost
       post_kept = post refl;
       prints = prints_nothing x.words a.said asks.said_is asks.stores x.status x.printed (o.held x.out.before) (o.held x.out.after) prints;
     }
-    performed outcome sending (Some h) begins follows shows prints means left base post of_base of_post = (a, record {
-      asks = asks;
-      opens = begins;
-      acts = follows;
-      leaves = λ start tell. left start tell.base tell.post;
-      comes = outcome (constants_of a) h (state_in a h) means begins.legal;
-      sends = λ run done. sending (constants_of a) h (state_in a h) (until_of a h) begins.legal (drained h x.status shows done run);
-      prints = prints;
-      shows = shows;
-    })
+    performed outcome sending (Some h) begins follows shows prints means left base post of_base of_post = (
+      a,
+      record {
+        asks = asks;
+        opens = begins;
+        acts = follows;
+        leaves = λ start tell. left start tell.base tell.post;
+        comes = outcome (constants_of a) h (state_in a h) means begins.legal;
+        sends = λ run done. sending (constants_of a) h (state_in a h) (until_of a h) begins.legal (drained h x.status shows done run);
+        prints = prints;
+        shows = shows;
+      },
+    )
 
   -- ---- what was refused
 

@@ -69,9 +69,9 @@ fn bodies_of<S: Source>(
     input: &mut S,
 ) -> Result<Bodies, Status>
     ensures read { BodiesAre command (record {
-        script = flow S.Source script.old script.new;
-        settings = flow S.Source settings.old settings.new;
-        lines = flow S.Source input.old input.new;
+      script = flow S.Source script.old script.new;
+      settings = flow S.Source settings.old settings.new;
+      lines = flow S.Source input.old input.new;
     }) result }
     ensures unread { command ≢ Run → input.new ≡ input.old }
 {
@@ -123,9 +123,9 @@ pub fn prepare<S: Source, C: Clock>(
     clock: &mut C,
 ) -> Result<Job, Status>
     ensures prepares { Prepares said (C.next clock.old) (record {
-        script = flow S.Source script.old script.new;
-        settings = flow S.Source settings.old settings.new;
-        lines = flow S.Source input.old input.new;
+      script = flow S.Source script.old script.new;
+      settings = flow S.Source settings.old settings.new;
+      lines = flow S.Source input.old input.new;
     }) result }
     ensures unread { said.command ≢ Run → input.new ≡ input.old }
 {

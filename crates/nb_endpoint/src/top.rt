@@ -52,21 +52,19 @@ pub fn run_alone<S: Source, O: Sink, P: Cells, D: Cells, C: Clock>(
     base: D,
     clock: &mut C,
 ) -> Ended<P, D>
-    ensures headline {
-        Headline S.Source O.Sink P.Cells D.Cells (λ said. 1) (record {
-            words = words.now;
-            clock = C.next clock.old;
-            script = ends script.old script.new;
-            settings = ends settings.old settings.new;
-            lines = ends input.old input.new;
-            out = ends out.old out.new;
-            post = ends post result.post;
-            base = ends base result.base;
-            status = result.status;
-            history = result.history;
-            printed = result.printed;
-        })
-    }
+    ensures headline { Headline S.Source O.Sink P.Cells D.Cells (λ said. 1) (record {
+      words = words.now;
+      clock = C.next clock.old;
+      script = ends script.old script.new;
+      settings = ends settings.old settings.new;
+      lines = ends input.old input.new;
+      out = ends out.old out.new;
+      post = ends post result.post;
+      base = ends base result.base;
+      status = result.status;
+      history = result.history;
+      printed = result.printed;
+    }) }
 {
     let said = match read_words(alloc, words) {
         Ok(Some(said)) => said,

@@ -23,32 +23,40 @@ pub returns-in-Ok : goal.returns-in-Ok
 returns-in-Ok g c =
     let is = sym c.in-Ok-Some.ensures ∙ c.in-Ok-Some.field-0-is in
     let serves = serve c.args.words.now c.in-Ok-Some.said is (λ e. true≢false (sym (c.is_sample.ensures.1 e) ∙ c.if-is_sample.false)) in
-    headline g.S.Source g.O.Sink g.P.Cells g.D.Cells (λ said. 1) _
-    (performed g.S.Source g.O.Sink g.P.Cells g.D.Cells _ (asked_by c.in-Ok.job) (asked _ _ _ c.in-Ok-Some.said c.in-Ok.job serves c.in-Ok.ensures.prepares)
-    c.law_outcome.ensures c.law_drained.ensures c.perform.result.history c.perform.ensures.begins c.perform.ensures.follows c.perform.ensures.shows c.perform.ensures.prints
-    c.perform.ensures.means c.perform.ensures.left c.perform.ensures.base_kept c.perform.ensures.post_kept c.perform.ensures.base_damage c.perform.ensures.post_damage)
-    c.perform.ensures.risen (λ no. c.in-Ok.ensures.unread (λ run. no (c.in-Ok-Some.said, is, run))) (λ none. absurd (not_apart c.args.words.now c.in-Ok-Some.said serves none))
+    record {
+      headline = headline g.S.Source g.O.Sink g.P.Cells g.D.Cells (λ said. 1) _
+          (performed g.S.Source g.O.Sink g.P.Cells g.D.Cells _ (asked_by c.in-Ok.job) (asked _ _ _ c.in-Ok-Some.said c.in-Ok.job serves c.in-Ok.ensures.prepares)
+          c.law_outcome.ensures c.law_drained.ensures c.perform.result.history c.perform.ensures.begins c.perform.ensures.follows c.perform.ensures.shows c.perform.ensures.prints
+          c.perform.ensures.means c.perform.ensures.left c.perform.ensures.base_kept c.perform.ensures.post_kept c.perform.ensures.base_damage c.perform.ensures.post_damage)
+          c.perform.ensures.risen (λ no. c.in-Ok.ensures.unread (λ run. no (c.in-Ok-Some.said, is, run))) (λ none. absurd (not_apart c.args.words.now c.in-Ok-Some.said serves none));
+    }
 
 pub returns-in-Err-prepare : goal.returns-in-Err-prepare
 returns-in-Err-prepare g c =
     let is = sym c.in-Ok-Some.ensures ∙ c.in-Ok-Some.field-0-is in
     let serves = serve c.args.words.now c.in-Ok-Some.said is (λ e. true≢false (sym (c.is_sample.ensures.1 e) ∙ c.if-is_sample.false)) in
     rw c.refused-in-Err-prepare.ensures
-    (headline g.S.Source g.O.Sink g.P.Cells g.D.Cells (λ said. 1) _
-    (unprepared g.S.Source g.O.Sink g.P.Cells g.D.Cells _ c.in-Ok-Some.said serves c.in-Err-prepare.ensures.prepares (not_called g.D.Cells c.args.base) (not_called g.P.Cells c.args.post) (refl, refl))
-    (refused_risen _ _ _ c.in-Err-prepare.status c.in-Err-prepare.ensures.prepares) (λ no. c.in-Err-prepare.ensures.unread (λ run. no (c.in-Ok-Some.said, is, run)))
-    (λ none. absurd (not_apart c.args.words.now c.in-Ok-Some.said serves none)))
+    (record {
+      headline = headline g.S.Source g.O.Sink g.P.Cells g.D.Cells (λ said. 1) _
+          (unprepared g.S.Source g.O.Sink g.P.Cells g.D.Cells _ c.in-Ok-Some.said serves c.in-Err-prepare.ensures.prepares (not_called g.D.Cells c.args.base) (not_called g.P.Cells c.args.post) (refl, refl))
+          (refused_risen _ _ _ c.in-Err-prepare.status c.in-Err-prepare.ensures.prepares) (λ no. c.in-Err-prepare.ensures.unread (λ run. no (c.in-Ok-Some.said, is, run)))
+          (λ none. absurd (not_apart c.args.words.now c.in-Ok-Some.said serves none));
+    })
 
 pub returns-in-Err : goal.returns-in-Err
 returns-in-Err g c =
     rw c.refused-in-Err.ensures
-    (headline g.S.Source g.O.Sink g.P.Cells g.D.Cells (λ said. 1) _
-    (record { shows = tt; base_kept = not_called g.D.Cells c.args.base; post_kept = not_called g.P.Cells c.args.post; prints = prints_short _ 0 _ _ (refl, refl) })
-    tt (λ no. refl) (λ none. record { script = refl; settings = refl; lines = refl; base = refl; post = refl }))
+    (record {
+      headline = headline g.S.Source g.O.Sink g.P.Cells g.D.Cells (λ said. 1) _
+          (record { shows = tt; base_kept = not_called g.D.Cells c.args.base; post_kept = not_called g.P.Cells c.args.post; prints = prints_short _ 0 _ _ (refl, refl) })
+          tt (λ no. refl) (λ none. record { script = refl; settings = refl; lines = refl; base = refl; post = refl });
+    })
 
 pub returns-then-is_sample : goal.returns-then-is_sample
 returns-then-is_sample g c =
-    headline g.S.Source g.O.Sink g.P.Cells g.D.Cells (λ said. 1) _
-    (sampled g.S.Source g.O.Sink g.P.Cells g.D.Cells _ c.in-Ok-Some.said (sym c.in-Ok-Some.ensures ∙ c.in-Ok-Some.field-0-is) (c.is_sample.ensures.0 c.if-is_sample.true)
-    c.sample-status.ensures.prints (not_called g.D.Cells c.args.base) (not_called g.P.Cells c.args.post))
-    (sample_risen _ _ _ _ _ _ _ c.sample-status.ensures.prints c.sample-status.ensures.risen) (λ no. refl) (λ none. record { script = refl; settings = refl; lines = refl; base = refl; post = refl })
+    record {
+      headline = headline g.S.Source g.O.Sink g.P.Cells g.D.Cells (λ said. 1) _
+          (sampled g.S.Source g.O.Sink g.P.Cells g.D.Cells _ c.in-Ok-Some.said (sym c.in-Ok-Some.ensures ∙ c.in-Ok-Some.field-0-is) (c.is_sample.ensures.0 c.if-is_sample.true)
+          c.sample-status.ensures.prints (not_called g.D.Cells c.args.base) (not_called g.P.Cells c.args.post))
+          (sample_risen _ _ _ _ _ _ _ c.sample-status.ensures.prints c.sample-status.ensures.risen) (λ no. refl) (λ none. record { script = refl; settings = refl; lines = refl; base = refl; post = refl });
+    }
