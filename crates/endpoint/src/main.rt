@@ -1,5 +1,5 @@
-//! The program: the top call on the words of the command line, the files of the folder, standard input and output, and the
-//! system's clock.
+//! The program: the top call on the words of the command line, the files of the folder, standard
+//! input and output, and the system's clock.
 #![tactic(auto)]
 
 mod origin;

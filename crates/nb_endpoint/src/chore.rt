@@ -27,9 +27,11 @@ pub fn chore_of<M: Handling + Drop, P: Cells, D: Cells>(
     command: Command,
     hub: &Hub<M, P, D>,
 ) -> Result<Chore, NoMemory>
-    ensures chore { IfOk result (λ x. x ≡ chore_of command (seen (past_of (M.meaning hub.now.handlers) hub.now.course))) }
+    ensures chore { IfOk result
+        (λ x. x ≡ chore_of command (seen (past_of (M.meaning hub.now.handlers) hub.now.course))) }
     ensures refused { OnErr result (IsListed command) }
-    ensures can { IfOk result (λ x. CanDo x (seen (past_of (M.meaning hub.now.handlers) hub.now.course))) }
+    ensures can { IfOk result
+        (λ x. CanDo x (seen (past_of (M.meaning hub.now.handlers) hub.now.course))) }
 {
     match command {
         Command::Run => Ok(Chore::Handle),

@@ -60,8 +60,10 @@ pub(crate) fn work<H: Handling, M: Handling + Drop, P: Cells, D: Cells>(
         (seen (past_of (M.meaning hub.old.handlers) hub.old.course))
         (seen (past_of (M.meaning hub.new.handlers) hub.new.course)) }
     ensures stands { (start : Started)
-        → DeskStands P.Cells D.Cells start (past_of (M.meaning hub.old.handlers) hub.old.course) hub.old.base hub.old.post
-        → DeskStands P.Cells D.Cells start (past_of (M.meaning hub.new.handlers) hub.new.course) hub.new.base hub.new.post }
+        → DeskStands P.Cells D.Cells start
+        (past_of (M.meaning hub.old.handlers) hub.old.course) hub.old.base hub.old.post
+        → DeskStands P.Cells D.Cells start
+        (past_of (M.meaning hub.new.handlers) hub.new.course) hub.new.base hub.new.post }
     ensures handlers { M.meaning hub.new.handlers ≡ M.meaning hub.old.handlers }
 {
     match chore_of(command, hub) {
@@ -92,7 +94,8 @@ fn finish<H: Handling, M: Handling + Drop, P: Cells, D: Cells, O: Sink>(
     requires one { hub.course.opening.workers ≡ 1 }
     requires moment { hub.course.opening.moment ≡ task.now.moment }
     requires meaning { M.meaning hub.handlers ≡ H.meaning handling.now }
-    ensures finished { (a : Asked) → IsNew 1 a said task.now (seen (past_of (M.meaning hub.handlers) hub.course))
+    ensures finished { (a : Asked)
+        → IsNew 1 a said task.now (seen (past_of (M.meaning hub.handlers) hub.course))
         → IsFinished 1 a result.worked result.history (O.held out.old) (O.held out.new) }
     ensures risen { Risen result.worked.status (counts
         hub.course.base_faults (D.count result.base)
@@ -101,7 +104,8 @@ fn finish<H: Handling, M: Handling + Drop, P: Cells, D: Cells, O: Sink>(
     ensures means { IsMeaning (M.meaning hub.handlers) }
     ensures left { (a : Asked) (start : Started)
         → IsNew 1 a said task.now (seen (past_of (M.meaning hub.handlers) hub.course))
-        → DeskStands P.Cells D.Cells start (past_of (M.meaning hub.handlers) hub.course) hub.base hub.post
+        → DeskStands P.Cells D.Cells start
+        (past_of (M.meaning hub.handlers) hub.course) hub.base hub.post
         → AreLeft P.Cells D.Cells start a result.history result.post result.base }
 {
     let mut hub = hub;
@@ -135,10 +139,13 @@ pub fn perform<O: Sink, P: Cells, D: Cells>(
     requires built { job.said.command ≢ Sample }
     ensures begins { IfSome result.history (Begins 1 (asked_by job)) }
     ensures follows { IfSome result.history (Follows (asked_by job) result.status) }
-    ensures shows { MatchOption result.history (IsOfStart result.status) (Shows (asked_by job) result.status) }
+    ensures shows { MatchOption result.history
+        (IsOfStart result.status)
+        (Shows (asked_by job) result.status) }
     ensures prints { MatchOption result.history
         (PrintsNothing result.printed (O.held out.old) (O.held out.new))
-        (λ h. Prints result.status (state_in (asked_by job) h) result.printed (O.held out.old) (O.held out.new)) }
+        (λ h. Prints result.status (state_in (asked_by job) h) result.printed
+        (O.held out.old) (O.held out.new)) }
     ensures risen { Risen result.status (counts
         (D.count base) (D.count result.base)
         (P.count post) (P.count result.post)

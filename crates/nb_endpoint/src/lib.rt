@@ -1,5 +1,5 @@
-//! A job of the program: what is asked for, read and checked before a store is touched, what is done for it at a desk, and
-//! how that ends.
+//! A job of the program: what is asked for, read and checked before a store is touched, what is
+//! done for it at a desk, and how that ends.
 #![tactic(auto)]
 
 mod chore;

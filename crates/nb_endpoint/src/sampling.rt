@@ -2,7 +2,8 @@
 ghost use Rattle.std.specs.Prelude.{◌≡◌, [], IfOk};
 ghost use Rattle.nb_endpoint.specs.Asked.{Asked, asked_by};
 ghost use Rattle.nb_endpoint.specs.Finishing.{IsNew};
-ghost use Rattle.nb_endpoint.specs.Sampling.{AreSampled, IsSample, IsSummary, IsSummaryOf, SampleIs, sample_words};
+ghost use Rattle.nb_endpoint.specs.Sampling.{AreSampled, IsSample, IsSummary, IsSummaryOf};
+ghost use Rattle.nb_endpoint.specs.Sampling.{SampleIs, sample_words};
 ghost use Rattle.nb_hub.specs.Kept.{seen};
 ghost use Rattle.nb_hub.specs.Ledgers.{past_of};
 ghost use Rattle.nb_words.specs.declared.words.Command.TheVariants.{Run};
@@ -76,7 +77,8 @@ fn sample_job(alloc: Global, seed: u64, count: u64) -> Result<Job, NoMemory>
     })
 }
 
-/// Makes the run at a hub of which nothing was asked before. Each of its faults is told as want of memory.
+/// Makes the run at a hub of which nothing was asked before. Each of its faults is told as want of
+/// memory.
 fn summarize<H: Handling, M: Handling + Drop>(
     alloc: Global,
     handling: &H,
@@ -90,7 +92,8 @@ fn summarize<H: Handling, M: Handling + Drop>(
     requires moment { hub.course.opening.moment ≡ task.now.moment }
     requires meaning { M.meaning hub.handlers ≡ H.meaning handling.now }
     requires run { said.command ≡ Run }
-    ensures { (a : Asked) → IsNew 1 a said task.now (seen (past_of (M.meaning hub.handlers) hub.course))
+    ensures { (a : Asked)
+        → IsNew 1 a said task.now (seen (past_of (M.meaning hub.handlers) hub.course))
         → IfOk result (IsSummaryOf a said.seed said.count error.now hub.course.opening) }
 {
     let mut hub = hub;

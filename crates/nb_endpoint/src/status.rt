@@ -37,7 +37,8 @@ pub enum Status {
     },
     /// The words aren't a command.
     Words,
-    /// The first place at which the script isn't well-typed. Lines and columns count from 1, a column counts bytes.
+    /// The first place at which the script isn't well-typed. Lines and columns count from 1, a
+    /// column counts bytes.
     Script {
         line: u32,
         column: u32,
@@ -63,7 +64,8 @@ pub enum Status {
     PostFault,
     /// There was no memory.
     NoMemory,
-    /// The least cell of a store that is none of its grammar and bounds, or the saga that doesn't fit the script.
+    /// The least cell of a store that is none of its grammar and bounds, or the saga that doesn't
+    /// fit the script.
     Damaged {
         store: Which,
         space: u8,

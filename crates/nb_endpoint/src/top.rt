@@ -39,8 +39,8 @@ fn refused<P, D>(status: Status, post: P, base: D) -> Ended<P, D>
     }
 }
 
-/// All that the program does with one worker. All sources are read before any is looked at, and all is checked before a
-/// store is touched.
+/// All that the program does with one worker. All sources are read before any is looked at, and all
+/// is checked before a store is touched.
 pub fn run_alone<S: Source, O: Sink, P: Cells, D: Cells, C: Clock>(
     alloc: Global,
     words: &[Text],

@@ -33,7 +33,8 @@ fn run<H: Handling, D: Desk>(
     requires on { halted (D.view desk.old).events ≡ false }
     requires moment { (state_of (D.view desk.old)).moment ≡ task.now.moment }
     requires meaning { (D.view desk.old).fixed.meaning ≡ H.meaning handling.now }
-    ensures run { RunIs task.now.messages task.now.until result (D.view desk.old) (D.view desk.new) }
+    ensures run { RunIs task.now.messages task.now.until result
+        (D.view desk.old) (D.view desk.new) }
     ensures stands { (start : D.Start) → D.stands start desk.old → D.stands start desk.new }
     ensures caused { D.caused desk.old → D.caused desk.new }
 {
@@ -44,7 +45,8 @@ fn run<H: Handling, D: Desk>(
     drain_alone(alloc, handling, task.moment, desk, task.until)
 }
 
-/// Does what is to be done. It answers false where all Takes are made that are allowed, and something is left.
+/// Does what is to be done. It answers false where all Takes are made that are allowed, and
+/// something is left.
 pub fn serve<H: Handling, D: Desk>(
     alloc: Global,
     handling: &H,
@@ -57,7 +59,8 @@ pub fn serve<H: Handling, D: Desk>(
     requires moment { (state_of (D.view desk.old)).moment ≡ task.now.moment }
     requires meaning { (D.view desk.old).fixed.meaning ≡ H.meaning handling.now }
     requires can { CanDo chore.now (D.view desk.old) }
-    ensures does { Does chore.now task.now.messages task.now.until result (D.view desk.old) (D.view desk.new) }
+    ensures does { Does chore.now task.now.messages task.now.until result
+        (D.view desk.old) (D.view desk.new) }
     ensures stands { (start : D.Start) → D.stands start desk.old → D.stands start desk.new }
     ensures caused { D.caused desk.old → D.caused desk.new }
 {

@@ -42,8 +42,8 @@ fn rounds<M: Handling, D: Desk>(
     }
 }
 
-/// Works until nothing is left that is due at most `until`, which answers true, or until no Take is left. It answers
-/// false only then, and only where something is left.
+/// Works until nothing is left that is due at most `until`, which answers true, or until no Take is
+/// left. It answers false only then, and only where something is left.
 pub fn drain_alone<M: Handling, D: Desk>(
     alloc: Global,
     handling: &M,

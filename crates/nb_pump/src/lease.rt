@@ -21,7 +21,8 @@ fn judge<M: Handling, D: Desk, G: Gate>(
     envelope: &Envelope,
     reads: Reads,
 ) -> Result<(), DeskFault>
-    requires judged { MayJudge (M.meaning handling.now) w envelope.now reads moment (D.view desk.old) }
+    requires judged { MayJudge (M.meaning handling.now) w envelope.now reads moment
+        (D.view desk.old) }
     ensures follows { Follows w result (D.view desk.old) (D.view desk.new) }
     ensures stands { (start : D.Start) → D.stands start desk.old → D.stands start desk.new }
     ensures caused { D.caused desk.old → D.caused desk.new }
@@ -61,8 +62,8 @@ fn handle<M: Handling, D: Desk, G: Gate>(
     }
 }
 
-/// One lease of a worker, from the Take to its end. The gate is passed right after a look that found the message new, and
-/// right after the evaluation.
+/// One lease of a worker, from the Take to its end. The gate is passed right after a look that
+/// found the message new, and right after the evaluation.
 pub fn turn<M: Handling, D: Desk, G: Gate>(
     alloc: Global,
     handling: &M,

@@ -1,8 +1,10 @@
-//! What is done at a desk at rest: messages are loaded, what failed is put back, records are purged.
+//! What is done at a desk at rest: messages are loaded, what failed is put back, records are
+//! purged.
 ghost use Rattle.std.specs.Prelude.{◌≡◌, false};
 ghost use Rattle.nb_core.specs.Legal.{halted};
 ghost use Rattle.nb_pump.specs.Drains.{Standing};
-ghost use Rattle.nb_pump.specs.Plans.{Goes, StandOnce, CanReturnAll, CanPurgeAll, loads_of, returns_of, purges_of};
+ghost use Rattle.nb_pump.specs.Plans.{CanPurgeAll, CanReturnAll, Goes, StandOnce};
+ghost use Rattle.nb_pump.specs.Plans.{loads_of, purges_of, returns_of};
 
 use nb_base::{Copied, Envelope, Items, Names, NoMemory, Numbers};
 use nb_core::{Desk, DeskFault};

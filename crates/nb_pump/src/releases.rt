@@ -56,8 +56,8 @@ fn later(a: Moment, b: Moment) -> Moment
     if a < b { b } else { a }
 }
 
-/// Lets time go on until something stands in the own queue, and answers that moment; or answers None where nothing is
-/// left that is due at most `until`.
+/// Lets time go on until something stands in the own queue, and answers that moment; or answers
+/// None where nothing is left that is due at most `until`.
 pub fn wind<D: Desk>(
     desk: &mut D,
     moment: Moment,
