@@ -61,7 +61,7 @@ fn want_field_in(
     e: Judgement,
 ) -> Result<(), NoMemory>
     ensures { OnOk result (breaches.new
-            ≡ breaches.old ++ spec.takes_in (option_copied declared.entry) name.now at e) }
+        ≡ breaches.old ++ spec.takes_in (option_copied declared.entry) name.now at e) }
 {
     match declared {
         None => Ok(()),
@@ -76,7 +76,7 @@ fn want_all(
     make: &Make,
 ) -> Result<(), NoMemory>
     ensures { OnOk result (breaches.new
-            ≡ breaches.old ++ missing_faults (option_copied declared.entry) (tree.make make.now)) }
+        ≡ breaches.old ++ missing_faults (option_copied declared.entry) (tree.make make.now)) }
 {
     match declared {
         None => blame(breaches, make.name.at, CheckKind::UnknownMessage),
@@ -89,7 +89,7 @@ fn want_all(
 
 fn want_saga(breaches: &mut Breaches, at: u32, saga: Option<&SagaScope>) -> Result<(), NoMemory>
     ensures { OnOk result (breaches.new
-            ≡ breaches.old ++ needs_saga at (option_copied saga.entry)) }
+        ≡ breaches.old ++ needs_saga at (option_copied saga.entry)) }
 {
     match saga {
         None => blame(breaches, at, CheckKind::NoSaga),
@@ -104,7 +104,7 @@ fn want_originator(
     saga: Option<&SagaScope>,
 ) -> Result<(), NoMemory>
     ensures { OnOk result (breaches.new
-            ≡ breaches.old ++ originator_faults at originator_at (option_copied saga.entry)) }
+        ≡ breaches.old ++ originator_faults at originator_at (option_copied saga.entry)) }
 {
     match originator_at {
         None => Ok(()),
@@ -121,7 +121,7 @@ fn want_set(
     saga: Option<&SagaScope>,
 ) -> Result<(), NoMemory>
     ensures { OnOk result (breaches.new
-            ≡ breaches.old ++ set_faults at field_at field.now e (option_copied saga.entry)) }
+        ≡ breaches.old ++ set_faults at field_at field.now e (option_copied saga.entry)) }
 {
     match saga {
         None => blame(breaches, at, CheckKind::NoSaga),
@@ -141,7 +141,7 @@ fn want_timeout(
     saga: Option<&SagaScope>,
 ) -> Result<(), NoMemory>
     ensures { OnOk result (breaches.new
-            ≡ breaches.old ++ timeout_faults name.now (option_copied saga.entry)) }
+        ≡ breaches.old ++ timeout_faults name.now (option_copied saga.entry)) }
 {
     match saga {
         None => Ok(()),
@@ -156,7 +156,7 @@ fn want_timeout(
 impl<'a> Scope<'a> {
     fn want_value(&self, k: FieldKind, e: &Expr, breaches: &mut Breaches) -> Result<(), NoMemory>
         ensures { OnOk result (breaches.new
-                ≡ breaches.old ++ value_faults k (tree.tree e.now) self.now) }
+            ≡ breaches.old ++ value_faults k (tree.tree e.now) self.now) }
     {
         let judged = self.judge(e, breaches)?;
         want(breaches, k, judged)?;
@@ -165,7 +165,7 @@ impl<'a> Scope<'a> {
 
     fn want_row(&self, row: &RowName, breaches: &mut Breaches) -> Result<(), NoMemory>
         ensures { OnOk result (breaches.new
-                ≡ breaches.old ++ row_faults (tree.row_name row.now) self.now) }
+            ≡ breaches.old ++ row_faults (tree.row_name row.now) self.now) }
     {
         self.judge(&row.name, breaches)?;
         self.want_name(&row.name, breaches)?;
@@ -174,7 +174,7 @@ impl<'a> Scope<'a> {
 
     fn want_delay(&self, after: &Option<After>, breaches: &mut Breaches) -> Result<(), NoMemory>
         ensures { OnOk result (breaches.new
-                ≡ breaches.old ++ delay_faults (option_map tree.after after.now) self.now) }
+            ≡ breaches.old ++ delay_faults (option_map tree.after after.now) self.now) }
     {
         match after {
             None => Ok(()),
@@ -189,8 +189,8 @@ impl<'a> Scope<'a> {
         breaches: &mut Breaches,
     ) -> Result<(), NoMemory>
         ensures { OnOk result (breaches.new
-                ≡ breaches.old
-                ++ args_faults (option_copied declared.entry) (map tree.arg args.now) self.now) }
+            ≡ breaches.old
+            ++ args_faults (option_copied declared.entry) (map tree.arg args.now) self.now) }
     {
         for a in args {
             let judged = self.judge(&a.value, breaches)?;
@@ -207,8 +207,8 @@ impl<'a> Scope<'a> {
         breaches: &mut Breaches,
     ) -> Result<(), NoMemory>
         ensures { OnOk result (breaches.new
-                ≡ breaches.old
-                ++ made_faults (option_copied declared.entry) (tree.make make.now) self.now) }
+            ≡ breaches.old
+            ++ made_faults (option_copied declared.entry) (tree.make make.now) self.now) }
     {
         want_all(alloc, breaches, declared, make)?;
         let placed = placed_args(alloc, make.args.as_slice())?;
@@ -225,7 +225,7 @@ impl<'a> Scope<'a> {
         breaches: &mut Breaches,
     ) -> Result<(), NoMemory>
         ensures { OnOk result (breaches.new
-                ≡ breaches.old ++ make_faults messages.now (tree.make make.now) self.now) }
+            ≡ breaches.old ++ make_faults messages.now (tree.make make.now) self.now) }
     {
         let name = type_text(alloc, &make.name)?;
         self.want_made(alloc, messages.fields_of(&name), make, breaches)
@@ -240,9 +240,9 @@ impl<'a> Scope<'a> {
         breaches: &mut Breaches,
     ) -> Result<(), NoMemory>
         ensures broken { OnOk result (breaches.new
-                ≡ breaches.old ++ spec.let_faults name_at name.now (tree.tree value.now) self.old) }
+            ≡ breaches.old ++ spec.let_faults name_at name.now (tree.tree value.now) self.old) }
         ensures after { OnOk result (self.new
-                ≡ spec.after_let name.now (tree.tree value.now) self.old) }
+            ≡ spec.after_let name.now (tree.tree value.now) self.old) }
     {
         let judged = self.judge(value, breaches)?;
         let is_new = self.local(name).is_none();
@@ -264,8 +264,8 @@ impl<'a> Scope<'a> {
         breaches: &mut Breaches,
     ) -> Result<(), NoMemory>
         ensures { OnOk result (breaches.new
-                ≡ breaches.old
-                ++ spec.set_value_faults at field_at field.now (tree.tree value.now) self.now) }
+            ≡ breaches.old
+            ++ spec.set_value_faults at field_at field.now (tree.tree value.now) self.now) }
     {
         let judged = self.judge(value, breaches)?;
         want_set(breaches, at, field_at, field, judged, self.saga())?;
@@ -274,8 +274,8 @@ impl<'a> Scope<'a> {
 
     fn want_put(&self, row: &RowName, value: &Expr, breaches: &mut Breaches) -> Result<(), NoMemory>
         ensures { OnOk result (breaches.new
-                ≡ breaches.old
-                ++ spec.put_faults (tree.row_name row.now) (tree.tree value.now) self.now) }
+            ≡ breaches.old
+            ++ spec.put_faults (tree.row_name row.now) (tree.tree value.now) self.now) }
     {
         self.want_row(row, breaches)?;
         self.want_value(FieldKind::Int, value, breaches)?;
@@ -291,9 +291,9 @@ impl<'a> Scope<'a> {
         breaches: &mut Breaches,
     ) -> Result<(), NoMemory>
         ensures { OnOk result (breaches.new
-                ≡ breaches.old
-                ++ spec.send_faults messages.now (option_map tree.after after.now)
-                (tree.make make.now) self.now) }
+            ≡ breaches.old
+            ++ spec.send_faults messages.now (option_map tree.after after.now)
+            (tree.make make.now) self.now) }
     {
         self.want_delay(after, breaches)?;
         self.want_make(alloc, messages, make, breaches)?;
@@ -310,8 +310,8 @@ impl<'a> Scope<'a> {
         breaches: &mut Breaches,
     ) -> Result<(), NoMemory>
         ensures { OnOk result (breaches.new
-                ≡ breaches.old
-                ++ spec.reply_faults messages.now at originator_at (tree.make make.now) self.now) }
+            ≡ breaches.old
+            ++ spec.reply_faults messages.now at originator_at (tree.make make.now) self.now) }
     {
         want_originator(breaches, at, originator_at, self.saga())?;
         self.want_make(alloc, messages, make, breaches)?;
@@ -328,9 +328,9 @@ impl<'a> Scope<'a> {
         breaches: &mut Breaches,
     ) -> Result<(), NoMemory>
         ensures { OnOk result (breaches.new
-                ≡ breaches.old
-                ++ spec.timed_faults messages.now at (tree.tree delay.now)
-                (tree.make make.now) self.now) }
+            ≡ breaches.old
+            ++ spec.timed_faults messages.now at (tree.tree delay.now)
+            (tree.make make.now) self.now) }
     {
         want_saga(breaches, at, self.saga())?;
         self.want_value(FieldKind::Int, delay, breaches)?;
@@ -349,7 +349,7 @@ impl<'a> Scope<'a> {
         breaches: &mut Breaches,
     ) -> Result<(), NoMemory>
         ensures broken { OnOk result (breaches.new
-                ≡ breaches.old ++ phrase_faults messages.now (phrase d.now) self.old) }
+            ≡ breaches.old ++ phrase_faults messages.now (phrase d.now) self.old) }
         ensures after { OnOk result (self.new ≡ after (phrase d.now) self.old) }
     {
         match d {
@@ -412,7 +412,7 @@ impl<'a> Scope<'a> {
         breaches: &mut Breaches,
     ) -> Result<(), NoMemory>
         ensures broken { OnOk result (breaches.new
-                ≡ breaches.old ++ braces_faults messages.now (block b.now) self.old) }
+            ≡ breaches.old ++ braces_faults messages.now (block b.now) self.old) }
         ensures after { OnOk result (self.new ≡ self.old) }
     {
         let count = self.count();
@@ -432,7 +432,7 @@ impl<'a> Scope<'a> {
         breaches: &mut Breaches,
     ) -> Result<(), NoMemory>
         ensures broken { OnOk result (breaches.new
-                ≡ breaches.old ++ otherwise_faults messages.now (otherwise o.now) self.old) }
+            ≡ breaches.old ++ otherwise_faults messages.now (otherwise o.now) self.old) }
         ensures after { OnOk result (self.new ≡ self.old) }
     {
         match o {

@@ -79,7 +79,7 @@ fn address_by(
     id: Option<&Text>,
 ) -> Result<Option<Address>, NoMemory>
     ensures { IfOk result (λ a. a
-            ≡ address_by (option_copied saga.entry) (option_copied id.entry)) }
+        ≡ address_by (option_copied saga.entry) (option_copied id.entry)) }
 {
     match (saga, id) {
         (Some(saga), Some(id)) => address_in(alloc, type_name(saga.as_str()), id),

@@ -71,7 +71,7 @@ impl<'a> Scope<'a> {
         breaches: &mut Breaches,
     ) -> Result<(), NoMemory>
         ensures { OnOk result (breaches.new
-                ≡ breaches.old ++ piece_field holder name.now at self.now) }
+            ≡ breaches.old ++ piece_field holder name.now at self.now) }
     {
         match holder {
             Holder::Message => want_piece(breaches, self.message_kind(name), at),
@@ -82,7 +82,7 @@ impl<'a> Scope<'a> {
     /// Adds the tokens that can't stand in a row's name.
     pub(crate) fn want_name(&self, e: &Expr, breaches: &mut Breaches) -> Result<(), NoMemory>
         ensures { OnOk result (breaches.new
-                ≡ breaches.old ++ name_faults (tree.tree e.now) self.now) }
+            ≡ breaches.old ++ name_faults (tree.tree e.now) self.now) }
     {
         match e {
             Expr::Number { at, .. } | Expr::Name { at, .. } | Expr::Prefix { at, .. } => {
@@ -129,7 +129,7 @@ impl<'a> Scope<'a> {
         breaches: &mut Breaches,
     ) -> Result<(), NoMemory>
         ensures { OnOk result (breaches.new
-                ≡ breaches.old ++ message_field_faults name_at name.now self.now.message) }
+            ≡ breaches.old ++ message_field_faults name_at name.now self.now.message) }
     {
         match self.message() {
             None => Ok(()),
@@ -148,7 +148,7 @@ impl<'a> Scope<'a> {
         breaches: &mut Breaches,
     ) -> Result<(), NoMemory>
         ensures { OnOk result (breaches.new
-                ≡ breaches.old ++ saga_field_faults at name_at name.now self.now.saga) }
+            ≡ breaches.old ++ saga_field_faults at name_at name.now self.now.saga) }
     {
         match self.saga() {
             None => blame(breaches, at, CheckKind::NoSaga),
@@ -168,7 +168,7 @@ impl<'a> Scope<'a> {
         breaches: &mut Breaches,
     ) -> Result<(), NoMemory>
         ensures { OnOk result (breaches.new
-                ≡ breaches.old ++ field_faults holder at name_at name.now self.now) }
+            ≡ breaches.old ++ field_faults holder at name_at name.now self.now) }
     {
         match holder {
             Holder::Message => self.want_message_field(name, name_at, breaches),
@@ -185,7 +185,7 @@ impl<'a> Scope<'a> {
     ) -> Result<(), NoMemory>
         requires { judged ≡ judgement (tree.tree e.now) self.now }
         ensures { OnOk result (breaches.new
-                ≡ breaches.old ++ argument_faults function (tree.tree e.now) self.now) }
+            ≡ breaches.old ++ argument_faults function (tree.tree e.now) self.now) }
     {
         match function {
             Function::Row | Function::Has => self.want_name(e, breaches),
@@ -203,9 +203,9 @@ impl<'a> Scope<'a> {
         breaches: &mut Breaches,
     ) -> Result<Judgement, NoMemory>
         ensures said { IfOk result (λ j. j
-                ≡ record { at = at; kind = field_kind holder name.now self.now }) }
+            ≡ record { at = at; kind = field_kind holder name.now self.now }) }
         ensures broken { OnOk result (breaches.new
-                ≡ breaches.old ++ field_faults holder at name_at name.now self.now) }
+            ≡ breaches.old ++ field_faults holder at name_at name.now self.now) }
     {
         self.want_field(holder, name, at, name_at, breaches)?;
         Ok(Judgement {
@@ -221,10 +221,10 @@ impl<'a> Scope<'a> {
         breaches: &mut Breaches,
     ) -> Result<Judgement, NoMemory>
         ensures said { IfOk result (λ j. j
-                ≡ record { at = at; kind = spec.known (local_in name.now self.now.names) }) }
+            ≡ record { at = at; kind = spec.known (local_in name.now self.now.names) }) }
         ensures broken { OnOk result (breaches.new
-                ≡ breaches.old
-                ++ unless_some (local_in name.now self.now.names) at CheckKind.UnknownName) }
+            ≡ breaches.old
+            ++ unless_some (local_in name.now self.now.names) at CheckKind.UnknownName) }
     {
         let found = self.local(name);
         want_true(breaches, found.is_some(), at, CheckKind::UnknownName)?;
@@ -238,7 +238,7 @@ impl<'a> Scope<'a> {
     pub(crate) fn judge(&self, e: &Expr, breaches: &mut Breaches) -> Result<Judgement, NoMemory>
         ensures said { IfOk result (λ j. j ≡ judgement (tree.tree e.now) self.now) }
         ensures broken { OnOk result (breaches.new
-                ≡ breaches.old ++ spec.faults (tree.tree e.now) self.now) }
+            ≡ breaches.old ++ spec.faults (tree.tree e.now) self.now) }
     {
         match e {
             Expr::Number { at, .. } => Ok(judged(*at, FieldKind::Int)),

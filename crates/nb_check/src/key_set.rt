@@ -76,7 +76,7 @@ impl Known {
         keys: &mut Keys,
     ) -> Result<(), NoMemory>
         ensures { OnOk result (keys.new
-                ≡ keys.old ++ call_key function (tree.tree e.now) self.now) }
+            ≡ keys.old ++ call_key function (tree.tree e.now) self.now) }
     {
         match function {
             Function::Row | Function::Has => self.row_key(alloc, e, keys),
@@ -111,7 +111,7 @@ impl Known {
 
     fn named_row_keys(&self, alloc: Global, row: &RowName, keys: &mut Keys) -> Result<(), NoMemory>
         ensures { OnOk result (keys.new
-                ≡ keys.old ++ named_row_keys (tree.row_name row.now) self.now) }
+            ≡ keys.old ++ named_row_keys (tree.row_name row.now) self.now) }
     {
         self.term_keys(alloc, &row.name, keys)?;
         self.row_key(alloc, &row.name, keys)?;
@@ -134,7 +134,7 @@ impl Known {
         keys: &mut Keys,
     ) -> Result<(), NoMemory>
         ensures { OnOk result (keys.new
-                ≡ keys.old ++ delay_keys (option_map tree.after after.now) self.now) }
+            ≡ keys.old ++ delay_keys (option_map tree.after after.now) self.now) }
     {
         match after {
             None => Ok(()),
@@ -230,8 +230,8 @@ impl Incoming {
         keys: &mut Keys,
     ) -> Result<(), NoMemory>
         ensures { OnOk result (keys.new
-                ≡ keys.old ++ block_keys self.now known.now
-                (part_block saga.now (tree.part part.now))) }
+            ≡ keys.old ++ block_keys self.now known.now
+            (part_block saga.now (tree.part part.now))) }
     {
         match part {
             Part::ByField { field, block, .. } => {
@@ -257,7 +257,7 @@ impl Incoming {
         keys: &mut Keys,
     ) -> Result<(), NoMemory>
         ensures { OnOk result (keys.new
-                ≡ keys.old ++ keys_at self.now known.now (site_block (script items.now) site.now)) }
+            ≡ keys.old ++ keys_at self.now known.now (site_block (script items.now) site.now)) }
     {
         match items.get(site.item as usize) {
             Some(Item::Handler { block, .. }) => known.body_keys(alloc, block, keys),
@@ -282,8 +282,8 @@ impl Checked {
         keys: &mut Keys,
     ) -> Result<(), NoMemory>
         ensures { OnOk result (keys.new
-                ≡ keys.old ++ keys_at m.now known.now
-                (slice_get (blocks (script self.now)) number)) }
+            ≡ keys.old ++ keys_at m.now known.now
+            (slice_get (blocks (script self.now)) number)) }
     {
         match self.site(number) {
             Some(site) => m.site_keys(alloc, known, self.items(), site, keys),
@@ -300,7 +300,7 @@ impl Checked {
         numbers: &[u32],
     ) -> Result<Keys, NoMemory>
         ensures { IfOk result (λ ks. ks
-                ≡ numbers_keys m.now known.now (blocks (script self.now)) numbers.now) }
+            ≡ numbers_keys m.now known.now (blocks (script self.now)) numbers.now) }
     {
         let mut keys = Items::new(alloc);
         for number in numbers {

@@ -94,7 +94,7 @@ fn placed_fields(alloc: Global, fields: &[MessageField]) -> Result<Items<Placed>
 /// The correlation property and the other fields of a saga.
 fn placed_state(alloc: Global, saga: &Saga) -> Result<Items<Placed>, NoMemory>
     ensures { IfOk result (λ ps. ps
-            ≡ spec.placed_field saga.now.correlation ∷ spec.placed_state saga.now.fields) }
+        ≡ spec.placed_field saga.now.correlation ∷ spec.placed_state saga.now.fields) }
 {
     let mut placed = Items::new(alloc);
     placed.push(placed_field(&saga.correlation)?)?;
@@ -221,7 +221,7 @@ fn want_since(
     since: &Option<Since>,
 ) -> Result<(), NoMemory>
     ensures { OnOk result (breaches.new
-            ≡ breaches.old ++ spec.since_faults revision kind since.now) }
+        ≡ breaches.old ++ spec.since_faults revision kind since.now) }
 {
     match since {
         None => Ok(()),
@@ -251,7 +251,7 @@ fn want_state(breaches: &mut Breaches, revision: i64, fields: &[SagaField]) -> R
 
 fn saga_kinds(alloc: Global, saga: &Saga) -> Result<Items<Declared>, NoMemory>
     ensures { IfOk result (λ ds. ds
-            ≡ declared.field_of saga.now.correlation ∷ spec.state_kinds saga.now.fields) }
+        ≡ declared.field_of saga.now.correlation ∷ spec.state_kinds saga.now.fields) }
 {
     let mut kinds = Items::new(alloc);
     kinds.push(field_of(&saga.correlation)?)?;
@@ -277,7 +277,7 @@ fn want_message(
     at: u32,
 ) -> Result<(), NoMemory>
     ensures { OnOk result (breaches.new
-            ≡ breaches.old ++ unless_known (option_copied fields.entry) at) }
+        ≡ breaches.old ++ unless_known (option_copied fields.entry) at) }
 {
     match fields {
         None => blame(breaches, at, CheckKind::UnknownMessage),
@@ -295,8 +295,8 @@ fn want_block(
     b: &Block,
 ) -> Result<(), NoMemory>
     ensures { OnOk result (breaches.new
-            ≡ breaches.old
-            ++ spec.block_faults messages.now name.now (option_copied saga.entry) (block b.now)) }
+        ≡ breaches.old
+        ++ spec.block_faults messages.now name.now (option_copied saga.entry) (block b.now)) }
 {
     let text = type_text(alloc, name)?;
     let fields = messages.fields_of(&text);
@@ -329,8 +329,8 @@ fn want_by(
     correlation: FieldKind,
 ) -> Result<(), NoMemory>
     ensures { OnOk result (breaches.new
-            ≡ breaches.old
-            ++ spec.by_faults (option_copied fields.entry) field.now at correlation) }
+        ≡ breaches.old
+        ++ spec.by_faults (option_copied fields.entry) field.now at correlation) }
 {
     match fields {
         None => Ok(()),
@@ -347,8 +347,8 @@ fn want_part(
     part: &Part,
 ) -> Result<(), NoMemory>
     ensures { OnOk result (breaches.new
-            ≡ breaches.old
-            ++ spec.part_faults messages.now saga.now correlation (tree.part part.now)) }
+        ≡ breaches.old
+        ++ spec.part_faults messages.now saga.now correlation (tree.part part.now)) }
 {
     match part {
         Part::ByField {
@@ -382,10 +382,10 @@ fn want_parts(
     saga: &Saga,
 ) -> Result<(), NoMemory>
     ensures { OnOk result (breaches.new
-            ≡ breaches.old
-            ++ spec.parts_faults messages.now
-            (spec.saga_sight (tree.saga saga.now)) saga.now.correlation.kind
-            (map tree.part saga.now.parts)) }
+        ≡ breaches.old
+        ++ spec.parts_faults messages.now
+        (spec.saga_sight (tree.saga saga.now)) saga.now.correlation.kind
+        (map tree.part saga.now.parts)) }
 {
     let scope = saga_scope(alloc, saga)?;
     for p in saga.parts.as_slice() {
@@ -397,7 +397,7 @@ fn want_parts(
 /// Adds the rules that the fields and the revision of a saga break.
 fn want_declared(alloc: Global, breaches: &mut Breaches, saga: &Saga) -> Result<(), NoMemory>
     ensures { OnOk result (breaches.new
-            ≡ breaches.old ++ spec.declared_faults (tree.saga saga.now)) }
+        ≡ breaches.old ++ spec.declared_faults (tree.saga saga.now)) }
 {
     let placed = placed_state(alloc, saga)?;
     want_distinct(alloc, breaches, CheckKind::FieldTwice, placed.as_slice())?;
@@ -418,7 +418,7 @@ fn want_saga(
     saga: &Saga,
 ) -> Result<(), NoMemory>
     ensures { OnOk result (breaches.new
-            ≡ breaches.old ++ spec.saga_faults messages.now (tree.saga saga.now)) }
+        ≡ breaches.old ++ spec.saga_faults messages.now (tree.saga saga.now)) }
 {
     want_declared(alloc, breaches, saga)?;
     let parts = placed_parts(alloc, saga.parts.as_slice())?;
@@ -436,7 +436,7 @@ fn want_item(
     i: &Item,
 ) -> Result<(), NoMemory>
     ensures { OnOk result (breaches.new
-            ≡ breaches.old ++ spec.item_faults messages.now (tree.item i.now)) }
+        ≡ breaches.old ++ spec.item_faults messages.now (tree.item i.now)) }
 {
     match i {
         Item::Message { fields, .. } => {
@@ -457,7 +457,7 @@ fn want_items(
     items: &[Item],
 ) -> Result<(), NoMemory>
     ensures { OnOk result (breaches.new
-            ≡ breaches.old ++ spec.items_faults messages.now (script items.now)) }
+        ≡ breaches.old ++ spec.items_faults messages.now (script items.now)) }
 {
     for i in items {
         want_item(alloc, breaches, messages, i)?;

@@ -27,8 +27,11 @@ impl Model for SagaScope {
 
     ghost Value = { SagaSight };
 
-    ghost view = { λ s. record { correlation = s.correlation; fields = s.fields;
-            timeouts = s.timeouts } };
+    ghost view = { λ s. record {
+      correlation = s.correlation;
+      fields = s.fields;
+      timeouts = s.timeouts;
+    } };
 
     ghost invariant = { λ s. AreNames s.timeout_table s.timeouts };
 }
@@ -42,7 +45,7 @@ impl SagaScope {
         timeouts: Names,
     ) -> Result<SagaScope, NoMemory>
         ensures { IfOk result (λ s. s
-                ≡ record { correlation = correlation; fields = fields; timeouts = timeouts }) }
+            ≡ record { correlation = correlation; fields = fields; timeouts = timeouts }) }
     {
         let timeout_table = names_table(alloc, timeouts.as_slice())?;
         Ok(SagaScope {
@@ -88,8 +91,11 @@ impl<'a> Model for Scope<'a> {
 
     ghost Value = { Sight };
 
-    ghost view = { λ g. record { message = option_copied g.message; saga = option_copied g.saga;
-            names = g.names } };
+    ghost view = { λ g. record {
+      message = option_copied g.message;
+      saga = option_copied g.saga;
+      names = g.names;
+    } };
 }
 
 impl<'a> Scope<'a> {
@@ -98,8 +104,11 @@ impl<'a> Scope<'a> {
         message: Option<&'a FieldTable>,
         saga: Option<&'a SagaScope>,
     ) -> Scope<'a>
-        ensures { result ≡ record { message = option_copied message.entry;
-                saga = option_copied saga.entry; names = [] } }
+        ensures { result ≡ record {
+          message = option_copied message.entry;
+          saga = option_copied saga.entry;
+          names = [];
+        } }
     {
         Scope {
             message,
@@ -166,7 +175,7 @@ impl<'a> Scope<'a> {
     /// Brings a name into sight.
     pub(crate) fn bring(&mut self, local: Local) -> Result<(), NoMemory>
         ensures { OnOk result (self.new
-                ≡ record self.old { names = self.old.names ++ local ∷ [] }) }
+            ≡ record self.old { names = self.old.names ++ local ∷ [] }) }
     {
         self.names.push(local)
     }

@@ -83,7 +83,7 @@ fn add_else(alloc: Global, o: &Else, names: &mut Names) -> Result<(), NoMemory>
 
 fn add_parts(alloc: Global, saga: &Saga, names: &mut Names) -> Result<(), NoMemory>
     ensures { OnOk result (names.new
-            ≡ names.old ++ blocks_sends (item_blocks (tree.item (Item.Saga saga.now)))) }
+        ≡ names.old ++ blocks_sends (item_blocks (tree.item (Item.Saga saga.now)))) }
 {
     for p in saga.parts.as_slice() {
         match p {

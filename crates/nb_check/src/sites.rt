@@ -123,8 +123,8 @@ fn add_number(
     named: &mut ByName<Blocks>,
 ) -> Result<(), NoMemory>
     ensures { OnOk result ((q : List ℕ)
-            → numbers_of (names.get named.new q)
-            ≡ numbers_of (names.get named.old q) ++ number_if (bytes_eq q name.now) number) }
+        → numbers_of (names.get named.new q)
+        ≡ numbers_of (names.get named.old q) ++ number_if (bytes_eq q name.now) number) }
 {
     let key = name.copy()?;
     let mut numbers = take_numbers(alloc, name, named);

@@ -98,7 +98,7 @@ pub fn read_settings(
     ensures reads { ReadsSettings result (faults_for bytes.now (sends (script checked.now)))
         (root_of bytes.now) }
     ensures routed { IfOk result (λ settings. AreRouted settings.routes
-            (sends (script checked.now))) }
+        (sends (script checked.now))) }
 {
     let settings = settings_in(alloc, bytes)?;
     match first_unrouted(&settings, checked.sends()) {

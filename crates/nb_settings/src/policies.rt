@@ -33,7 +33,7 @@ fn action_named(text: &str) -> Option<Action>
 fn action_in(alloc: Global, name: &str, value: &Value) -> Result<Action, SettingsRefusal>
     ensures { Reads result
         (text_faults (codes "policies." ++ name.now) (λ text. is_some (action_of text))
-            (as_str (view value.now)))
+        (as_str (view value.now)))
         (unwrap_or (option_and_then action_of (as_str (view value.now))) action.Error) }
 {
     match value {

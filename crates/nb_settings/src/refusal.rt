@@ -54,6 +54,15 @@ pub enum SettingsRefusal {
     NoMemory,
 }
 
+impl Copied for SettingsRefusal {
+    fn copy(&self) -> Result<SettingsRefusal, NoMemory> {
+        match self {
+            SettingsRefusal::Fault(fault) => Ok(SettingsRefusal::Fault(fault.copy()?)),
+            SettingsRefusal::NoMemory => Ok(SettingsRefusal::NoMemory),
+        }
+    }
+}
+
 impl From<NoMemory> for SettingsRefusal {
     ghost use Rattle.std.specs.Prelude.{◌≡◌};
     ghost use Rattle.nb_settings.specs.declared.refusal.SettingsRefusal.TheVariants.{NoMemory};

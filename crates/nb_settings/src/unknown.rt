@@ -48,8 +48,8 @@ fn least_in(
     value: Option<&Value>,
 ) -> Result<Option<Text>, NoMemory>
     ensures { IfOk result (λ o. o
-            ≡ least_with best
-            (others_in group (members_of (option_map (λ v. view v.now) value.entry)))) }
+        ≡ least_with best
+        (others_in group (members_of (option_map (λ v. view v.now) value.entry)))) }
 {
     match value {
         Some(Value::Table(table)) => least_within(alloc, best, group, table),

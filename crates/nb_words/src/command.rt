@@ -45,8 +45,8 @@ fn command<'a>(alloc: Global) -> Result<clap::Command<'a>, NoMemory>
 /// The matches of the words, or nothing where they are refused.
 fn matches_in<'a>(alloc: Global, words: &'a [Text]) -> Result<Option<ArgMatches<'a>>, NoMemory>
     ensures { IfOk result (λ o. MatchOption o (is_refused words.entry.now ≡ true)
-            (λ m. (is_refused words.entry.now ≡ false)
-                × (rows_of (found_of m) ≡ matches_of cli words.entry.now))) }
+        (λ m. (is_refused words.entry.now ≡ false)
+        × (rows_of (found_of m) ≡ matches_of cli words.entry.now))) }
 {
     let command = command(alloc)?;
     match command.try_get_matches_from(words) {

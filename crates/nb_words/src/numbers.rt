@@ -42,7 +42,7 @@ fn is_number(text: &str) -> bool
 fn value(text: &str) -> Option<u64>
     requires { is_number text.now ≡ true }
     ensures { result ≡ (if nat_lt (digits_value 10 text.now)
-            (2 ^ 64) then Some (digits_value 10 text.now) else None) }
+        (2 ^ 64) then Some (digits_value 10 text.now) else None) }
 {
     text.parse::<u64>().ok()
 }
