@@ -20,10 +20,6 @@ both_true : (a b : Bool) → (a && b) ≡ true → (a ≡ true) × (b ≡ true)
 both_true true b e = (refl, e)
 both_true false b e = absurd (true≢false (sym e))
 
-are_true : (a b : Bool) → a ≡ true → b ≡ true → (a && b) ≡ true
-are_true true b p q = q
-are_true false b p q = absurd (true≢false (sym p))
-
 parts : (a b : Bool) → T (a && b) → T a × T b
 parts true b h = (tt, h)
 parts false b h = absurd h

@@ -24,7 +24,3 @@ some-met items look e at m (n ∷ ns) some = refl
 pub evaluated : (items : List ItemTerm) (look : Key → Seen) (e : Message) (at : ℕ) (m : Incoming) (met : List ℕ) (v : Verdict) → incoming (declared_names items) e ≡ Some m → met ≡ met_from m 0 (blocks items) → met ≢ []
     → v ≡ on_body items look e at m (body_fields items m.message e.body) → v ≡ verdict_over items look e at
 evaluated items look e at m met v inc is some h = h ∙ sym (over-met items look e at m met inc is ∙ some-met items look e at m met some)
-
-pub unmet : (items : List ItemTerm) (look : Key → Seen) (e : Message) (at : ℕ) (m : Incoming) (met : List ℕ) → incoming (declared_names items) e ≡ Some m → met ≡ met_from m 0 (blocks items) → met ≡ []
-    → verdict.Fault (no_handler m.name) ≡ verdict_over items look e at
-unmet items look e at m met inc is none = sym (over-met items look e at m met inc is ∙ ap (on_met items look e at m) none)

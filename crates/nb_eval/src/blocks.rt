@@ -108,7 +108,7 @@ impl Scene {
         requires fits { FitsLook (sagas (script c.now)) (seen_in self.now.reads) }
         ensures { Does result state.new
             (block_does (sagas (script c.now)) block (Finds finder saga.now.name field.now)
-                (tree.block b.now) (world_of self.now) state.old) }
+            (tree.block b.now) (world_of self.now) state.old) }
     {
         let Some(value) = value_in(field, self.fields.as_slice()) else {
             return Err(Stop::Wrong);
@@ -144,7 +144,7 @@ impl Scene {
         requires fits { FitsLook (sagas (script c.now)) (seen_in self.now.reads) }
         ensures { Does result state.new
             (block_does (sagas (script c.now)) block (Answers answer saga.now.name)
-                (tree.block b.now) (world_of self.now) state.old) }
+            (tree.block b.now) (world_of self.now) state.old) }
     {
         match by_id(&saga.name, &self.saga_id, self.reads.as_slice()) {
             Some(row) => {
@@ -170,7 +170,7 @@ impl Scene {
         requires fits { FitsLook (sagas (script c.now)) (seen_in self.now.reads) }
         ensures { Does result state.new
             (term_does (sagas (script c.now)) block (part_block saga.now.name (tree.part p.now))
-                (world_of self.now) state.old) }
+            (world_of self.now) state.old) }
     {
         match p {
             Part::ByField {
@@ -199,7 +199,7 @@ impl Scene {
         requires fits { FitsLook (sagas (script c.now)) (seen_in self.now.reads) }
         ensures { Does result state.new
             (at_does (sagas (script c.now)) place (site_block (script c.now) site.now)
-                (world_of self.now) state.old) }
+            (world_of self.now) state.old) }
     {
         match c.items().get(site.item as usize) {
             Some(Item::Handler { block, .. }) => self.in_block(alloc, state, None, block),
@@ -224,7 +224,7 @@ impl Scene {
         requires fits { FitsLook (sagas (script c.now)) (seen_in self.now.reads) }
         ensures { Does result state.new
             (at_does (sagas (script c.now)) place (slice_get (blocks (script c.now)) number)
-                (world_of self.now) state.old) }
+            (world_of self.now) state.old) }
     {
         match c.site(number) {
             Some(site) => self.site_does(alloc, c, state, site, place),
@@ -243,7 +243,7 @@ impl Scene {
         requires fits { FitsLook (sagas (script c.now)) (seen_in self.now.reads) }
         ensures { Does result state.new
             (numbers_do (sagas (script c.now)) (blocks (script c.now)) 1 met.now
-                (world_of self.now) state.old) }
+            (world_of self.now) state.old) }
     {
         let mut place: u32 = 0;
         for number in met {

@@ -87,8 +87,8 @@ impl Scene {
         block: u32,
     ) -> Result<Instance, NoMemory>
         ensures { IfOk result (λ i. i
-                ≡ spec.new_instance (saga_type (tree.saga saga.now)) value.now block
-                (world_of self.now)) }
+            ≡ spec.new_instance (saga_type (tree.saga saga.now)) value.now block
+            (world_of self.now)) }
     {
         let name = saga.name.copy()?;
         let property = saga.correlation.name.copy()?;

@@ -53,7 +53,7 @@ fn data_of(value: Value) -> Json
 /// Adds a field to the members.
 fn add_member(members: &mut Map<String, Json>, f: Field) -> Result<(), NoMemory>
     ensures { OnOk result (members_view members.new.entries
-            ≡ put f.name (data_of f.value) (members_view members.old.entries)) }
+        ≡ put f.name (data_of f.value) (members_view members.old.entries)) }
 {
     let Field { name, value } = f;
     members.insert(name.into_string(), data_of(value))?;

@@ -91,8 +91,8 @@ fn scene(
 /// Adds the change of a row.
 fn add_row(t: &Touched, reads: &[Read], writes: &mut Writes) -> Result<(), NoMemory>
     ensures { OnOk result (writes.new
-            ≡ writes.old
-            ++ spec.row_write t.now.name t.now.value (seen_in reads.now (Key.Row t.now.name))) }
+        ≡ writes.old
+        ++ spec.row_write t.now.name t.now.value (seen_in reads.now (Key.Row t.now.name))) }
 {
     match t.value {
         Some(value) => {
@@ -152,7 +152,7 @@ impl Scene {
 /// The verdict of a message whose blocks were run.
 fn verdict_of(alloc: Global, done: Result<Plan, Stop>) -> Result<Verdict, NoMemory>
     ensures { IfOk result (λ v. (meant : Answer Plan) → Gives done meant
-            → v ≡ spec.verdict_of meant) }
+        → v ≡ spec.verdict_of meant) }
 {
     match done {
         Ok(plan) => Ok(Verdict::Done(plan)),
@@ -183,8 +183,8 @@ fn on_body(
     requires fits { FitsLook (sagas (script c.now)) (seen_in reads) }
     ensures kept { IfOk result (λ o. o.reads ≡ reads) }
     ensures verdict { IfOk result (λ o. o.verdict
-            ≡ spec.on_body (script c.now) (seen_in reads) e.now moment m.now
-            (body_fields (script c.now) m.now.message e.now.body)) }
+        ≡ spec.on_body (script c.now) (seen_in reads) e.now moment m.now
+        (body_fields (script c.now) m.now.message e.now.body)) }
 {
     match decode_body(alloc, c, m.message, e.body()) {
         Ok(fields) => {
@@ -223,7 +223,7 @@ pub fn evaluate(
     requires fits { FitsLook (sagas (script c.now)) (seen_in reads) }
     ensures kept { IfOk result (λ o. o.reads ≡ reads) }
     ensures verdict { IfOk result (λ o. o.verdict
-            ≡ verdict_over (script c.now) (seen_in reads) e.now moment) }
+        ≡ verdict_over (script c.now) (seen_in reads) e.now moment) }
 {
     let Some(m) = c.incoming(alloc, e)? else {
         let verdict = Verdict::Fault(undeclared(alloc, e)?);
