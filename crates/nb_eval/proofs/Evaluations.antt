@@ -2,7 +2,6 @@
 use Rattle.std.proofs.Common.{◌≡◌, ◌≢◌, ℕ, refl, sym, ap, ◌∙◌, List, [], ◌∷◌, Some}
 use Rattle.nb_base.specs.Messages.{Message}
 use Rattle.nb_base.specs.declared.plan.Verdict.{Verdict}
-use Rattle.nb_base.specs.declared.plan.Verdict.TheVariants as verdict
 use Rattle.nb_base.specs.declared.saga_row.Seen.{Seen}
 use Rattle.nb_base.specs.declared.value.Key.{Key}
 use Rattle.nb_script.specs.Grammar.{ItemTerm}
@@ -10,7 +9,6 @@ use Rattle.nb_check.specs.Blocks.{blocks}
 use Rattle.nb_check.specs.Checks.{declared_names, body_fields}
 use Rattle.nb_check.specs.Meets.{incoming, met_from, met_by}
 use Rattle.nb_check.specs.declared.incoming.Incoming.{Incoming}
-use Rattle.nb_eval.specs.Faults.{no_handler}
 use Rattle.nb_eval.specs.Verdicts.{on_body, on_met, on_type, verdict_over}
 
 over-met : (items : List ItemTerm) (look : Key → Seen) (e : Message) (at : ℕ) (m : Incoming) (met : List ℕ) → incoming (declared_names items) e ≡ Some m → met ≡ met_from m 0 (blocks items)
